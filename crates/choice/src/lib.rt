@@ -1,0 +1,1 @@
+// The words that the other crates' definitions choose with, and the laws on them. No code.

@@ -1,0 +1,4 @@
+pub mod Linear
+pub mod Lookup
+pub mod Run
+pub mod Kept
