@@ -1,0 +1,10 @@
+// KISS frames as m17core's kiss.rs has them: escaping, the builders of a frame, and the readers of its port, command and payload.
+pub mod escape;
+
+const FEND: u8 = 0xC0;
+
+const FESC: u8 = 0xDB;
+
+const TFEND: u8 = 0xDC;
+
+const TFESC: u8 = 0xDD;
