@@ -1,2 +1,7 @@
 pub mod Escape
 pub mod Unescape
+pub mod Scan
+pub mod Frame
+pub mod Build
+pub mod Read
+pub mod Promises

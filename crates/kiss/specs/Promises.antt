@@ -1,0 +1,61 @@
+-- What is promised of escaping and of frames over several calls, from the KISS paper and document 01. Each is proved in proofs/Kept.antt. Assumes nothing.
+use Prim.Native.Nat.{ℕ, _*_, _≤_}
+use mathlib.Core.Logic.{_≢_}
+use mathlib.Core.Path.{_≡_}
+use mathlib.Core.Option.{none}
+use mathlib.Core.List.{List}
+use lib.ListN.{length}
+use Rattle.store.specs.Room.{over}
+use Rattle.kiss.specs.declared.frame.KissCommand.{KissCommand}
+use Rattle.kiss.specs.declared.frame.Built.the-variants.{Frame}
+use Rattle.kiss.specs.declared.frame.PortRead.the-variants.{Port}
+use Rattle.kiss.specs.declared.frame.CommandRead.the-variants.{Command}
+use Rattle.kiss.specs.declared.frame.Decoded.the-variants.{Payload}
+use Rattle.kiss.specs.Escape.{esc}
+use Rattle.kiss.specs.Unescape.{unescaped}
+use Rattle.kiss.specs.Scan.{stretch}
+use Rattle.kiss.specs.Frame.{builtNumber}
+use Rattle.kiss.specs.Build.{Building, portOf, commandOf, contentOf, refusal, frameOf, built}
+use Rattle.kiss.specs.Read.{portRead, commandRead, decoded}
+
+-- ---- escaping
+
+-- unescaping what was escaped, given room, gives it back, and what lies beyond in the room stays
+abbrev pub EscapeRoundTrip : Type 0
+EscapeRoundTrip = (s room : List ℕ) → length s ≤ length room → unescaped (esc s) room ≡ (length s, over s room)
+
+-- no FEND stands in what was escaped
+abbrev pub EscapedHasNoFend : Type 0
+EscapedHasNoFend = (s : List ℕ) → stretch (esc s) ≡ none
+
+-- escaping makes nothing shorter, and nothing more than twice as long
+abbrev pub EscapedAtMostTwice : Type 0
+EscapedAtMostTwice = (s : List ℕ) → (length s ≤ length (esc s)) × (length (esc s) ≤ 2 * length s)
+
+-- ---- builders
+
+-- arguments that a builder accepts
+abbrev pub Accepted : Building → Type 0
+Accepted b = refusal b ≡ none
+
+-- accepted arguments and room for the frame: the frame stands at the room's start, and what lies beyond stays
+abbrev pub AcceptedIsBuilt : Type 0
+AcceptedIsBuilt = (b : Building) (room : List ℕ) → Accepted b → length (frameOf b) ≤ length room → built b room ≡ (Frame (length (frameOf b)), over (frameOf b) room)
+
+-- no frame that is built is longer than 1,713 bytes
+abbrev pub BuiltAtMost1713 : Type 0
+BuiltAtMost1713 = (b : Building) → Accepted b → length (frameOf b) ≤ 1713
+
+-- with any answer but 0 the room is as it was
+abbrev pub RefusedKeepsRoom : Type 0
+RefusedKeepsRoom = (b : Building) (room : List ℕ) → builtNumber (built b room .0) ≢ 0 → built b room .1 ≡ room
+
+-- ---- a frame that is read gives back what it was built from
+
+pub record ReadsAs (f : List ℕ) (port : ℕ) (command : KissCommand) (content : List ℕ) : Type 0 where
+  pub its-port : portRead f ≡ Port port
+  pub its-command : commandRead f ≡ Command command
+  pub its-payload : (room : List ℕ) → length content ≤ length room → decoded f room ≡ (Payload (length content), over content room)
+
+abbrev pub BuiltReadsBack : Type 0
+BuiltReadsBack = (b : Building) → Accepted b → ReadsAs (frameOf b) (portOf b) (commandOf b) (contentOf b)

@@ -1,0 +1,248 @@
+// A frame is any slice, a room any slice that is lent for one. Builders write a frame at the start of a room; port, command and payload are read from a frame.
+use super::FEND;
+use super::PORT_PACKET_BASIC;
+use super::PORT_PACKET_FULL;
+use super::PORT_STREAM;
+use super::escape::escaped_len;
+use super::escape::put_escaped;
+use super::escape::unescape;
+ghost use mathlib.Core.Path.{_≡_};
+ghost use mathlib.Core.List.{_++_};
+ghost use Prim.Native.Nat.{_+_, _≤_, _<_};
+ghost use lib.ListN.{length};
+ghost use Rattle.kiss.specs.Scan.{isFend, notFend, runOf};
+ghost use Rattle.kiss.specs.Frame.{commandNumber, headerOf, frame, putFrame};
+ghost use Rattle.kiss.specs.Build.{built, basicPacket, fullPacket, streamSetup, txDelay, persistence, fullDuplex, setting};
+ghost use Rattle.kiss.specs.Read.{portRead, commandFor, commandRead, decoded};
+
+pub enum KissCommand {
+    DataFrame,
+    TxDelay,
+    P,
+    FullDuplex,
+}
+
+impl KissCommand {
+    // A nibble as a command.
+    fn from_proto(value: u8) -> CommandRead
+        ensures { λ r. ⌜ r ≡ commandFor value ⌝ }
+    {
+        match value {
+            0 => CommandRead::Command(KissCommand::DataFrame),
+            1 => CommandRead::Command(KissCommand::TxDelay),
+            2 => CommandRead::Command(KissCommand::P),
+            5 => CommandRead::Command(KissCommand::FullDuplex),
+            3..=4 => CommandRead::UnsupportedKissCommand,
+            6..=255 => CommandRead::UnsupportedKissCommand,
+        }
+    }
+
+    fn proto_value(self) -> u8
+        ensures { λ r. ⌜ r ≡ commandNumber self ⌝ }
+    {
+        match self {
+            KissCommand::DataFrame => 0,
+            KissCommand::TxDelay => 1,
+            KissCommand::P => 2,
+            KissCommand::FullDuplex => 5,
+        }
+    }
+}
+
+// What a builder answers: the length of the frame that it wrote, or why it wrote none.
+pub enum Built {
+    Frame(usize),
+    PayloadTooBig,
+    LsfWrongSize,
+    OutOfRange,
+    NoRoom,
+}
+
+pub enum PortRead {
+    Port(u8),
+    MalformedKissFrame,
+}
+
+pub enum CommandRead {
+    Command(KissCommand),
+    MalformedKissFrame,
+    UnsupportedKissCommand,
+}
+
+// What `decode_payload` answers: how many bytes of the room it counted, or that the frame has no header or no end.
+pub enum Decoded {
+    Payload(usize),
+    MalformedKissFrame,
+}
+
+// Request to transmit a packet of up to 822 bytes, to which the TNC adds the type and the CRC.
+pub fn new_basic_packet(payload: &[u8], room: &mut [u8]) -> Built
+    ensures { λ r. ⌜ (r, now (room .exit)) ≡ built (basicPacket (now (payload .entry))) (now (room .entry)) ⌝ }
+{
+    if 822 < payload.len() {
+        return Built::PayloadTooBig;
+    }
+    put_frame(
+        kiss_header(PORT_PACKET_BASIC, KissCommand::DataFrame),
+        b"",
+        payload,
+        room,
+    )
+}
+
+// Request to transmit a packet of up to 825 bytes, type and CRC among them, behind an LSF of the sender's.
+pub fn new_full_packet(lsf: &[u8], packet: &[u8], room: &mut [u8]) -> Built
+    ensures { λ r. ⌜ (r, now (room .exit)) ≡ built (fullPacket (now (lsf .entry)) (now (packet .entry))) (now (room .entry)) ⌝ }
+{
+    if lsf.len() != 30 {
+        return Built::LsfWrongSize;
+    }
+    if 825 < packet.len() {
+        return Built::PayloadTooBig;
+    }
+    put_frame(
+        kiss_header(PORT_PACKET_FULL, KissCommand::DataFrame),
+        lsf,
+        packet,
+        room,
+    )
+}
+
+// Request to begin a stream.
+pub fn new_stream_setup(lsf: &[u8], room: &mut [u8]) -> Built
+    ensures { λ r. ⌜ (r, now (room .exit)) ≡ built (streamSetup (now (lsf .entry))) (now (room .entry)) ⌝ }
+{
+    if lsf.len() != 30 {
+        return Built::LsfWrongSize;
+    }
+    put_frame(
+        kiss_header(PORT_STREAM, KissCommand::DataFrame),
+        b"",
+        lsf,
+        room,
+    )
+}
+
+pub fn new_set_tx_delay(port: u8, units: u8, room: &mut [u8]) -> Built
+    ensures { λ r. ⌜ (r, now (room .exit)) ≡ built (txDelay port units) (now (room .entry)) ⌝ }
+{
+    put_setting(port, KissCommand::TxDelay, units, room)
+}
+
+pub fn new_set_p(port: u8, units: u8, room: &mut [u8]) -> Built
+    ensures { λ r. ⌜ (r, now (room .exit)) ≡ built (persistence port units) (now (room .entry)) ⌝ }
+{
+    put_setting(port, KissCommand::P, units, room)
+}
+
+pub fn set_full_duplex(port: u8, full_duplex: bool, room: &mut [u8]) -> Built
+    ensures { λ r. ⌜ (r, now (room .exit)) ≡ built (fullDuplex port «full_duplex») (now (room .entry)) ⌝ }
+{
+    if full_duplex {
+        return put_setting(port, KissCommand::FullDuplex, 1, room);
+    }
+    put_setting(port, KissCommand::FullDuplex, 0, room)
+}
+
+// The frame's port. Only 0, 1 and 2 mean something to the TNC.
+pub fn port(frame: &[u8]) -> PortRead
+    ensures { λ r. ⌜ r ≡ portRead (now (frame .entry)) ⌝ }
+{
+    let at = leading_fends(frame);
+    if frame.len() <= at {
+        return PortRead::MalformedKissFrame;
+    }
+    PortRead::Port(frame[at] / 16)
+}
+
+pub fn command(frame: &[u8]) -> CommandRead
+    ensures { λ r. ⌜ r ≡ commandRead (now (frame .entry)) ⌝ }
+{
+    let at = leading_fends(frame);
+    if frame.len() <= at {
+        return CommandRead::MalformedKissFrame;
+    }
+    KissCommand::from_proto(frame[at] % 16)
+}
+
+// Writes what stands between the header and the next FEND, unescaped, at the start of out.
+pub fn decode_payload(frame: &[u8], out: &mut [u8]) -> Decoded
+    ensures { λ r. ⌜ (r, now (out .exit)) ≡ decoded (now (frame .entry)) (now (out .entry)) ⌝ }
+{
+    let at = leading_fends(frame);
+    if frame.len() <= at {
+        return Decoded::MalformedKissFrame;
+    }
+    let start = at + 1;
+    let len = to_fend(&frame[start..]);
+    if frame.len() - start <= len {
+        return Decoded::MalformedKissFrame;
+    }
+    let end = start + len;
+    Decoded::Payload(unescape(&frame[start..end], out))
+}
+
+// How many FENDs stand at the front.
+pub(crate) fn leading_fends(s: &[u8]) -> usize
+    ensures { λ r. ⌜ r ≡ runOf isFend (now (s .entry)) ⌝ }
+{
+    let mut i = 0;
+    while i < s.len() {
+        if s[i] != FEND {
+            return i;
+        }
+        i += 1;
+    }
+    i
+}
+
+// How many bytes stand before the first FEND, all of them where there is none.
+pub(crate) fn to_fend(s: &[u8]) -> usize
+    ensures { λ r. ⌜ r ≡ runOf notFend (now (s .entry)) ⌝ }
+{
+    let mut i = 0;
+    while i < s.len() {
+        if s[i] == FEND {
+            return i;
+        }
+        i += 1;
+    }
+    i
+}
+
+fn kiss_header(port: u8, command: KissCommand) -> u8
+    requires { ⌜ port < 16 ⌝ }
+    ensures { λ r. ⌜ r ≡ headerOf port command ⌝ }
+{
+    port * 16 + command.proto_value()
+}
+
+// A frame of one byte for any of the 16 ports. The byte may be FEND or FESC, so it is escaped as any content is.
+fn put_setting(port: u8, command: KissCommand, value: u8, room: &mut [u8]) -> Built
+    ensures { λ r. ⌜ (r, now (room .exit)) ≡ setting port command value (now (room .entry)) ⌝ }
+{
+    if 15 < port {
+        return Built::OutOfRange;
+    }
+    put_frame(kiss_header(port, command), b"", &[value], room)
+}
+
+// Writes FEND, the header, first and second escaped, FEND at the start of room. Where they do not fit, room is left as it is.
+fn put_frame(header: u8, first: &[u8], second: &[u8], room: &mut [u8]) -> Built
+    requires { ⌜ length (now first) + length (now second) ≤ 855 ⌝ }
+    ensures { λ r. ⌜ (r, now (room .exit)) ≡ putFrame (frame header (now (first .entry) ++ now (second .entry))) (now (room .entry)) ⌝ }
+{
+    let n = escaped_len(first);
+    let m = escaped_len(second);
+    let at = n + 2;
+    let end = at + m;
+    if room.len() <= end {
+        return Built::NoRoom;
+    }
+    room[0] = FEND;
+    room[1] = header;
+    put_escaped(first, &mut room[2..]);
+    put_escaped(second, &mut room[at..]);
+    room[end] = FEND;
+    Built::Frame(end + 1)
+}
