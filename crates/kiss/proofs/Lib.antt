@@ -6,3 +6,5 @@ pub mod Scans
 pub mod Frames
 pub mod Builds
 pub mod Headers
+pub mod ReadBack
+pub mod Kept
