@@ -105,40 +105,24 @@ impl LsfFrame {
     pub fn set_mode(mut self, mode: Mode) -> Self
         ensures { λ r. ⌜ r .0 ≡ withField modeBits (modeNumber mode) (self .0) ⌝ }
     {
-        let bits = match mode {
-            Mode::Packet => 0,
-            Mode::Stream => 1,
-        };
         let t = self.lsf_type();
-        self = self.with_type(t / 2 * 2 + bits);
+        self = self.with_type(t / 2 * 2 + mode_number(mode));
         self
     }
 
     pub fn set_data_type(mut self, kind: DataType) -> Self
         ensures { λ r. ⌜ r .0 ≡ withField dataTypeBits (dataTypeNumber kind) (self .0) ⌝ }
     {
-        let bits = match kind {
-            DataType::Reserved => 0,
-            DataType::Data => 1,
-            DataType::Voice => 2,
-            DataType::VoiceAndData => 3,
-        };
         let t = self.lsf_type();
-        self = self.with_type(t / 8 * 8 + bits * 2 + t % 2);
+        self = self.with_type(t / 8 * 8 + data_type_number(kind) * 2 + t % 2);
         self
     }
 
     pub fn set_encryption_type(mut self, kind: EncryptionType) -> Self
         ensures { λ r. ⌜ r .0 ≡ withField encryptionBits (encryptionNumber kind) (self .0) ⌝ }
     {
-        let bits = match kind {
-            EncryptionType::None => 0,
-            EncryptionType::Scrambler => 1,
-            EncryptionType::Aes => 2,
-            EncryptionType::Other => 3,
-        };
         let t = self.lsf_type();
-        self = self.with_type(t / 32 * 32 + bits * 8 + t % 8);
+        self = self.with_type(t / 32 * 32 + encryption_number(kind) * 8 + t % 8);
         self
     }
 
@@ -176,6 +160,37 @@ impl LsfFrame {
         self.0[28] = (crc / 256) as u8;
         self.0[29] = (crc % 256) as u8;
         self
+    }
+}
+
+fn mode_number(mode: Mode) -> u16
+    ensures { λ r. ⌜ r ≡ modeNumber mode ⌝ }
+{
+    match mode {
+        Mode::Packet => 0,
+        Mode::Stream => 1,
+    }
+}
+
+fn data_type_number(kind: DataType) -> u16
+    ensures { λ r. ⌜ r ≡ dataTypeNumber kind ⌝ }
+{
+    match kind {
+        DataType::Reserved => 0,
+        DataType::Data => 1,
+        DataType::Voice => 2,
+        DataType::VoiceAndData => 3,
+    }
+}
+
+fn encryption_number(kind: EncryptionType) -> u16
+    ensures { λ r. ⌜ r ≡ encryptionNumber kind ⌝ }
+{
+    match kind {
+        EncryptionType::None => 0,
+        EncryptionType::Scrambler => 1,
+        EncryptionType::Aes => 2,
+        EncryptionType::Other => 3,
     }
 }
 
