@@ -1,3 +1,4 @@
 pub mod Small
 pub mod Frames
 pub mod Masks
+pub mod Collected

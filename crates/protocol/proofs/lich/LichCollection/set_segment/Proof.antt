@@ -1,41 +1,42 @@
+-- `protocol::lich::LichCollection::set_segment` meets its contract. Assumes nothing.
+use Prim.Native.Nat.{ℕ, _+_, _*_, _≤_}
+use mathlib.Core.Path.{_≡_, ap, _∙_}
+use mathlib.Core.List.{List}
+use native.Mathlib.Omega.{arith}
 use borrow.Author.Needs.{needs}
+use lib.ListN.{length}
+use lib.Seq.{sets-eq}
+use Rattle.choice.specs.Pick.{tests}
+use Rattle.store.specs.Room.{placed}
+use Rattle.store.specs.declared.Copied.{Copied}
+use Rattle.store.proofs.Copies.{copied-yes}
+use Rattle.protocol.specs.Lich.{withSegment, segmentSet}
+use Rattle.protocol.proofs.Masks.{or-is}
 use Rattle.protocol.proofs.lich.LichCollection.set_segment.Statement.{statement}
 use Rattle.protocol.proofs.lich.LichCollection.set_segment.Tie as tie
-use Rattle.protocol.proofs.lich.LichCollection.set_segment.Reads as reads
-use Rattle.protocol.proofs.lich.LichCollection.set_segment.Lts as lts
-use Rattle.store.proofs.copy_in.Reads as copy-in-reads
 
--- src/lich.rt:64:13
+thirty : (c : tie.Start) → length (c .args .self .segments) ≡ 30
+thirty c = search needs
+
+five : (c : tie.Start) → length (c .args .t3) ≡ 5
+five c = search needs
+
 returns : tie.Need-returns
-returns c = ?
+unfolding segmentSet
+returns c = search tests
 
--- src/lich.rt:67:13
 returns-2 : tie.Need-returns-2
-returns-2 c = ?
+unfolding segmentSet
+returns-2 c = search tests
 
--- src/lich.rt:70:18
-mul-at : tie.Need-mul-at
-mul-at c = search needs
-
--- src/lich.rt:71:24
-slice-aggregate-copy-in : tie.Need-slice-aggregate-copy-in
-slice-aggregate-copy-in c = search needs
-
--- src/lich.rt:71:31
-slice-aggregate-copy-in-2 : tie.Need-slice-aggregate-copy-in-2
-slice-aggregate-copy-in-2 c = search needs
-
--- src/lich.rt:71:9
-copy-in-requires : tie.Need-copy-in-requires
-copy-in-requires c κs = search needs
-
--- src/lich.rt:73:34
-shl-self : tie.Need-shl-self
-shl-self c = search needs
-
--- src/lich.rt:60:5
 returns-3 : tie.Need-returns-3
-returns-3 c = ?
+unfolding segmentSet withSegment
+returns-3 c =
+    let b = c .before .before in let t = b .before .before .before .before in let s = t .before .before .before in
+    let a = s .args in let d = a .self .segments in let at : ℕ = 5 * (a .counter) in
+    let fits : at + length (a .t3) ≤ length d = omega (arith, thirty s, five s) in
+    let e : b .copy-in .last .1 .0 ≡ placed (a .t3) d at = ap (λ (p : Copied × List ℕ). p .1) (b .copy-in .ensures ∙ copied-yes (a .t3) d at fits) ∙ sets-eq (a .t3) d at fits in
+    rw (e, or-is (a .self .mask) (a .counter) (omega arith) (omega arith)) (search tests)
 
 pub set-segment-spec : {M : Type 1} → statement M
 set-segment-spec =
@@ -43,9 +44,9 @@ set-segment-spec =
     (tie.spec
     returns
     returns-2
-    mul-at
-    slice-aggregate-copy-in
-    slice-aggregate-copy-in-2
-    copy-in-requires
-    shl-self
+    (λ c. search needs)
+    (λ c. search needs)
+    (λ c. search needs)
+    (λ c κs. search needs)
+    (λ c. search needs)
     returns-3)

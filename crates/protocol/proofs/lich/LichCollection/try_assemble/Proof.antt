@@ -1,35 +1,28 @@
+-- `protocol::lich::LichCollection::try_assemble` meets its contract. Assumes nothing.
+use Prim.Native.Nat.{ℕ}
+use mathlib.Core.Path.{_≡_, sym, _∙_}
+use mathlib.Core.List.{List}
 use borrow.Author.Needs.{needs}
+use Rattle.choice.specs.Pick.{tests}
+use Rattle.protocol.specs.declared.lich.ValidSegments.the-variants.{Count, OutOfBounds as NoCount}
+use Rattle.protocol.proofs.Collected.{by-count}
 use Rattle.protocol.proofs.lich.LichCollection.try_assemble.Statement.{statement}
 use Rattle.protocol.proofs.lich.LichCollection.try_assemble.Tie as tie
-use Rattle.protocol.proofs.lich.LichCollection.try_assemble.Reads as reads
-use Rattle.protocol.proofs.lich.LichCollection.try_assemble.Lts as lts
-use Rattle.protocol.proofs.lich.LichCollection.valid_segments.Reads as valid-segments-reads
 
--- src/lich.rt:81:13
-valid-segments-requires : tie.Need-valid-segments-requires
-valid-segments-requires c κs = search needs
-
--- src/lich.rt:83:63
-enum-told : tie.Need-enum-told
-enum-told c = search needs
-
--- src/lich.rt:84:34
-enum-known-heard : tie.Need-enum-known-heard
-enum-known-heard c = search needs
-
--- src/lich.rt:78:5
 returns : tie.Need-returns
-returns c = ?
+returns c = let v = c .before .before in by-count (v .before .args .self) NoCount (sym (c .enum-told .given .1) ∙ v .valid-segments .ensures)
 
--- src/lich.rt:78:5
 returns-2 : tie.Need-returns-2
-returns-2 c = ?
+returns-2 c =
+    let h = c .before .before .before in let v = h .before .before in let e = by-count (v .before .args .self) _ (sym (h .heard .given .1) ∙ v .valid-segments .ensures) in
+    rw (← e) (search tests)
 
--- src/lich.rt:78:5
 returns-3 : tie.Need-returns-3
-returns-3 c = ?
+returns-3 c =
+    let h = c .before .before in let v = h .before .before in let e = by-count (v .before .args .self) _ (sym (h .heard .given .1) ∙ v .valid-segments .ensures) in
+    rw (← e) (search tests)
 
 pub try-assemble-spec : {M : Type 1} → statement M
 try-assemble-spec =
     tie.close
-    (tie.spec valid-segments-requires enum-told enum-known-heard returns returns-2 returns-3)
+    (tie.spec (λ c κs. search needs) (λ c. search needs) (λ c. search needs) returns returns-2 returns-3)
