@@ -2,9 +2,10 @@
 use mathlib.Core.Path.{_≡_, refl, sym, ap, _∙_}
 use mathlib.Core.List.{List, [], _∷_, _++_, append-nil, append-assoc}
 use Prim.Native.Nat.{ℕ, _+_, _/_, _%_, _≤_}
+use native.Mathlib.Nat.{div-add-mod'}
 use native.Mathlib.Omega.{arith}
 use lib.ListN.{length, take, drop, getD, length-append, length-drop, drop-of-length-le}
-use lib.Seq.{sets, sets-eq, take-append-add, length-take-le}
+use lib.Seq.{sets, sets-eq, take-append-add, take-at, drop-at, drop-drop, getD-drop, length-take-le}
 use Rattle.crc.specs.Crc.{twoBytes, crcOf, sealed}
 use Rattle.protocol.specs.Lsf.{Field, typeField, meta, withBitsAt, retyped, withField}
 
@@ -27,3 +28,39 @@ stored-mid f a b n m h =
 pub set-type : {g : List ℕ} (f : List ℕ) (k : Field) (v t : ℕ) → g ≡ retyped t f → t ≡ withBitsAt k v (typeField f) → g ≡ withField k v f
 unfolding withField
 set-type f k v t e h = e ∙ ap (λ (x : ℕ). retyped x f) h
+
+-- ---- a frame whose type was set
+
+module _ (t : ℕ) (f : List ℕ) (whole : length f ≡ 30) where
+  head-length : length (take 12 f) ≡ 12
+  head-length = length-take-le 12 f (omega arith)
+
+  meta-length : length (meta f) ≡ 14
+  unfolding meta
+  meta-length = length-take-le 14 (drop 14 f) (omega (arith, length-drop 14 f))
+
+  -- what follows the type
+  rest : List ℕ
+  rest = meta f ++ twoBytes (crcOf (take 12 f ++ twoBytes t ++ meta f))
+
+  in-order : retyped t f ≡ take 12 f ++ (t / 256 ∷ t % 256 ∷ rest)
+  unfolding retyped sealed rest
+  in-order = simp append-assoc
+
+  from-type : drop 12 (retyped t f) ≡ t / 256 ∷ t % 256 ∷ rest
+  from-type = rw in-order (drop-at (take 12 f) _ 12 head-length)
+
+  pub addresses-kept : take 12 (retyped t f) ≡ take 12 f
+  addresses-kept = rw in-order (take-at (take 12 f) _ 12 head-length)
+
+  pub type-read : typeField (retyped t f) ≡ t
+  unfolding typeField
+  type-read = rw (← getD-drop 12 (retyped t f) 0 0, ← getD-drop 12 (retyped t f) 1 0, from-type) (div-add-mod' t 256)
+
+  pub meta-kept : meta (retyped t f) ≡ meta f
+  unfolding meta rest
+  meta-kept = rw (← drop-drop 2 12 (retyped t f), from-type) (take-at (meta f) _ 14 meta-length)
+
+  pub retyped-length : length (retyped t f) ≡ 30
+  unfolding rest
+  retyped-length = rw (in-order, length-append (take 12 f), length-append (meta f), head-length, meta-length)

@@ -11,10 +11,11 @@ use Rattle.protocol.specs.declared.lsf.Mode.{Mode}
 use Rattle.protocol.specs.declared.lsf.DataType.{DataType}
 use Rattle.protocol.specs.declared.lsf.EncryptionType.{EncryptionType}
 use Rattle.protocol.specs.declared.lich.LichCollection.{LichCollection}
+use Rattle.protocol.specs.declared.lich.SegmentAnswer.the-variants.{Done}
 use Rattle.protocol.specs.declared.lich.Assembly.the-variants.{Whole}
 use Rattle.protocol.specs.Lsf.{Field, typeField, meta, fieldOf, withField}
 use Rattle.protocol.specs.Kinds.{modeOf, modeNumber, dataTypeOf, dataTypeNumber, encryptionOf, encryptionNumber}
-use Rattle.protocol.specs.Lich.{segmentOf, heardCount, newCollection, withSegment, assembled}
+use Rattle.protocol.specs.Lich.{segmentOf, heardCount, newCollection, withSegment, segmentSet, assembled}
 
 -- ---- a field of the LSF's type is set
 
@@ -58,6 +59,12 @@ afterAll (s ∷ ss) c = afterAll ss (withSegment (s .index) (s .bytes) c)
 abbrev pub isAmong : ℕ → List Segment → Bool
 isAmong i [] = false
 isAmong i (s ∷ ss) = pick (eqb i (s .index)) true (isAmong i ss)
+
+-- each of these calls is accepted, after any of them on a new collection
+abbrev pub SegmentIsTaken : Type 0
+SegmentIsTaken =
+    (ss : List Segment) (s : Segment) → segmentSet (afterAll ss newCollection) (s .index) (s .bytes)
+    ≡ record { answer = Done; collection = withSegment (s .index) (s .bytes) (afterAll ss newCollection) }
 
 -- how many distinct indices a list of calls has
 abbrev pub distinct : List Segment → ℕ

@@ -61,17 +61,26 @@ impl LichCollection {
         ensures { λ r. ⌜ r ≡ segmentSet self counter part ⌝ }
     {
         if 64 <= self.mask {
-            return SegmentSet { answer: SegmentAnswer::OutOfBounds, collection: self };
+            return SegmentSet {
+                answer: SegmentAnswer::OutOfBounds,
+                collection: self,
+            };
         }
         if 5 < counter {
-            return SegmentSet { answer: SegmentAnswer::IndexOver5, collection: self };
+            return SegmentSet {
+                answer: SegmentAnswer::IndexOver5,
+                collection: self,
+            };
         }
         let mut segments = self.segments;
         let at = 5 * (counter as usize);
         store::copy_in(&part, &mut segments, at);
         self.segments = segments;
         self.mask = self.mask | (1u8 << counter);
-        SegmentSet { answer: SegmentAnswer::Done, collection: self }
+        SegmentSet {
+            answer: SegmentAnswer::Done,
+            collection: self,
+        }
     }
 
     // The LSF, once all six segments have been heard.
@@ -80,13 +89,22 @@ impl LichCollection {
     {
         let heard = self.valid_segments();
         match heard {
-            ValidSegments::OutOfBounds => Assembled { answer: Assembly::OutOfBounds, bytes: [0u8; 30] },
+            ValidSegments::OutOfBounds => Assembled {
+                answer: Assembly::OutOfBounds,
+                bytes: [0u8; 30],
+            },
             ValidSegments::Count(n) => {
                 if n == 6 {
                     let bytes = self.segments;
-                    Assembled { answer: Assembly::Whole, bytes: bytes }
+                    Assembled {
+                        answer: Assembly::Whole,
+                        bytes: bytes,
+                    }
                 } else {
-                    Assembled { answer: Assembly::Missing, bytes: [0u8; 30] }
+                    Assembled {
+                        answer: Assembly::Missing,
+                        bytes: [0u8; 30],
+                    }
                 }
             }
         }
