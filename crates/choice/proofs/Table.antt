@@ -47,3 +47,7 @@ each-from f (suc n) i t (suc k) h =
 
 pub below : (f : ℕ → Bool) (n : ℕ) → T (each f 0 n) → (k : ℕ) → k < n → T (f k)
 below f n t k h = subst (λ (m : ℕ). T (f m)) (zero-add k) (each-from f n 0 t k h)
+
+-- the same of a test of two numbers
+pub below-two : (f : ℕ → ℕ → Bool) (n m : ℕ) → T (each (λ (k : ℕ). each (f k) 0 m) 0 n) → (k j : ℕ) → k < n → j < m → T (f k j)
+below-two f n m t k j h g = below (f k) m (below (λ (i : ℕ). each (f i) 0 m) n t k h) j g

@@ -1,0 +1,26 @@
+-- The numbers of the kinds are small enough for their fields. Assumes nothing.
+use Prim.Native.Nat.{ℕ, _<_}
+use lib.Dec.{lit<}
+use Rattle.protocol.specs.declared.lsf.Mode.{Mode}
+use Rattle.protocol.specs.declared.lsf.Mode.the-variants.{Packet, Stream}
+use Rattle.protocol.specs.declared.lsf.DataType.{DataType}
+use Rattle.protocol.specs.declared.lsf.DataType.the-variants.{Reserved, Data, Voice, VoiceAndData}
+use Rattle.protocol.specs.declared.lsf.EncryptionType.{EncryptionType}
+use Rattle.protocol.specs.declared.lsf.EncryptionType.the-variants.{None, Scrambler, Aes, Other}
+use Rattle.protocol.specs.Kinds.{modeNumber, dataTypeNumber, encryptionNumber}
+
+pub mode-lt : (m : Mode) → modeNumber m < 2
+mode-lt Packet = lit< tt
+mode-lt Stream = lit< tt
+
+pub data-type-lt : (d : DataType) → dataTypeNumber d < 4
+data-type-lt Reserved = lit< tt
+data-type-lt Data = lit< tt
+data-type-lt Voice = lit< tt
+data-type-lt VoiceAndData = lit< tt
+
+pub encryption-lt : (e : EncryptionType) → encryptionNumber e < 4
+encryption-lt None = lit< tt
+encryption-lt Scrambler = lit< tt
+encryption-lt Aes = lit< tt
+encryption-lt Other = lit< tt

@@ -1,0 +1,35 @@
+-- `protocol::lsf::LsfFrame::lsf_type` meets its contract. Assumes nothing.
+use Prim.Native.Nat.{ℕ, _<_}
+use mir.Syntax.{w8}
+use mir.Val.{Fits}
+use native.Mathlib.Omega.{arith}
+use borrow.Author.Needs.{needs}
+use lib.ListN.{getD}
+use Rattle.protocol.specs.Lsf.{typeField}
+use Rattle.protocol.proofs.lsf.LsfFrame.lsf_type.Statement.{statement}
+use Rattle.protocol.proofs.lsf.LsfFrame.lsf_type.Tie as tie
+
+byte : (c : tie.Start) (i : ℕ) → Fits w8 (getD (c .args .self .0) i 0)
+byte c i = search needs
+
+mul-result : tie.Need-mul-result
+mul-result c = omega (arith, byte (c .before .before) 12)
+
+add-result : tie.Need-add-result
+add-result c = omega (arith, byte (c .before .before .before) 12, byte (c .before .before .before) 13)
+
+returns : tie.Need-returns
+unfolding typeField
+returns c = omega arith
+
+pub lsf-type-spec : {M : Type 1} → statement M
+lsf-type-spec =
+    tie.close
+    (tie.spec
+    (λ c. search needs)
+    (λ c κs. search needs)
+    mul-result
+    (λ c. search needs)
+    (λ c κs. search needs)
+    add-result
+    returns)

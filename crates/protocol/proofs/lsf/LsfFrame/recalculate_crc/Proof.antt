@@ -1,0 +1,40 @@
+-- `protocol::lsf::LsfFrame::recalculate_crc` meets its contract. Assumes nothing.
+use Prim.Native.Nat.{_/_, _%_}
+use mathlib.Core.Path.{_≡_, sym, ap, _∙_}
+use mathlib.Core.List.{[], _∷_, _++_}
+use native.Mathlib.Omega.{arith}
+use borrow.Author.Needs.{needs}
+use lib.ListN.{length, take}
+use lib.Seq.{length-take-le}
+use Rattle.crc.specs.Crc.{twoBytes, sealed}
+use Rattle.protocol.proofs.Frames.{stored-last}
+use Rattle.protocol.proofs.lsf.LsfFrame.recalculate_crc.Statement.{statement}
+use Rattle.protocol.proofs.lsf.LsfFrame.recalculate_crc.Tie as tie
+
+thirty : (c : tie.Start) → length (c .args .t1 .0) ≡ 30
+thirty c = search needs
+
+array-share-prefix-bytes : tie.Need-array-share-prefix-bytes
+array-share-prefix-bytes c = omega (arith, thirty (c .before))
+
+slice-aggregate-m17-crc : tie.Need-slice-aggregate-m17-crc
+slice-aggregate-m17-crc c = sym (length-take-le 28 (c .before .before .args .t1 .0) (omega (arith, thirty (c .before .before))))
+
+returns : tie.Need-returns
+unfolding sealed
+returns c =
+    let f = c .before .before .before .args .t1 .0 in
+    stored-last f (twoBytes (c .m17-crc .result)) 28 (sym (thirty (c .before .before .before))) ∙ ap (λ x. take 28 f ++ twoBytes x) (c .m17-crc .ensures)
+
+pub recalculate-crc-spec : {M : Type 1} → statement M
+recalculate-crc-spec =
+    tie.close
+    (tie.spec
+    array-share-prefix-bytes
+    slice-aggregate-m17-crc
+    (λ c κs. search needs)
+    (λ c. search needs)
+    (λ c. search needs)
+    (λ c. search needs)
+    (λ c. search needs)
+    returns)

@@ -1,0 +1,5 @@
+pub mod Lsf
+pub mod Kinds
+pub mod Basic
+pub mod Lich
+pub mod Promises
