@@ -19,13 +19,14 @@ use Rattle.kiss.specs.declared.frame.PortRead.the-variants.{Port}
 use Rattle.kiss.specs.declared.frame.CommandRead.the-variants.{Command}
 use Rattle.kiss.specs.Escape.{FEND}
 use Rattle.kiss.specs.Frame.{commandNumber, headerOf, frame, putFrame, builtNumber}
-use Rattle.kiss.specs.Build.{Building, basicPacket, fullPacket, streamSetup, txDelay, persistence, fullDuplex, portOf, commandOf, contentOf, refusal, frameOf, unless, built}
+use Rattle.kiss.specs.Build.{Building, basicPacket, fullPacket, streamSetup, streamData, txDelay, persistence, fullDuplex, portOf, commandOf, contentOf, refusal, frameOf, unless, built}
 use Rattle.kiss.specs.Read.{portAt, portRead, commandFor, commandAt, commandRead}
-use Rattle.kiss.specs.Promises.{EscapeRoundTrip, EscapedHasNoFend, EscapedAtMostTwice, Accepted, AcceptedIsBuilt, BuiltAtMost1713, RefusedKeepsRoom, ReadsAs, BuiltReadsBack}
+use Rattle.kiss.specs.Promises.{EscapeRoundTrip, EscapedHasNoFend, EscapedAtMostTwice, Accepted, AcceptedIsBuilt, BuiltAtMost1713, RefusedKeepsRoom, ReadsAs, BuiltReadsBack, StreamContentReadsBack}
 use Rattle.kiss.proofs.Escapes.{esc-length}
 use Rattle.kiss.proofs.Unescaped.{round-trip}
 use Rattle.kiss.proofs.Frames.{command-small, frame-length, put-yes}
 use Rattle.kiss.proofs.Builds.{built-accepted}
+use Rattle.kiss.proofs.Streams.{stream-length, stream-of, stream-crc}
 use Rattle.kiss.proofs.ReadBack.{stretch-esc, frame-header, frame-payload}
 
 -- ---- escaping
@@ -59,14 +60,23 @@ if-thirty n o r e = by (eqb n 30) refl e
 
 content-short : (b : Building) → Accepted b → length (contentOf b) ≤ 855
 unfolding refusal
-content-short (basicPacket payload) ok = omega (arith, within 822 (length payload) PayloadTooBig ok)
+content-short (basicPacket payload) ok = omega (arith, within 822 (length payload) PayloadTooBig (ok .not-refused))
 content-short (fullPacket lsf packet) ok =
-    let l = if-thirty (length lsf) (pick (ltb 825 (length packet)) (some PayloadTooBig) none) LsfWrongSize ok in
+    let l = if-thirty (length lsf) (pick (ltb 825 (length packet)) (some PayloadTooBig) none) LsfWrongSize (ok .not-refused) in
     omega (arith, l .0, within 825 (length packet) PayloadTooBig (l .1), length-append lsf packet)
-content-short (streamSetup lsf) ok = omega (arith, if-thirty (length lsf) none LsfWrongSize ok .0)
+content-short (streamSetup lsf) ok = omega (arith, if-thirty (length lsf) none LsfWrongSize (ok .not-refused) .0)
+content-short (streamData frame) ok = omega (arith, stream-length frame (ok .typed .0) (ok .typed .1))
 content-short (txDelay port units) ok = omega arith
 content-short (persistence port units) ok = omega arith
 content-short (fullDuplex port on) ok = omega arith
+
+within-two : (n m : ℕ) → pick (ltb 5 n) (some OutOfRange) (pick (ltb 32767 m) (some OutOfRange) none) ≡ none → (n ≤ 5) × (m ≤ 32767)
+unfolding pick
+within-two n m e = by (ltb 5 n) refl e
+  where
+    by : (t : Bool) → ltb 5 n ≡ t → pick t (some OutOfRange) (pick (ltb 32767 m) (some OutOfRange) none) ≡ none → (n ≤ 5) × (m ≤ 32767)
+    by true p q = let z : _≡_ {A = ℕ} 0 1 = cc in absurd (omega arith)
+    by false p q = (ltb-false 5 n p, within 32767 m OutOfRange q)
 
 -- the port is one of 16, and no header is a FEND: of the data builders the port is below 3, of the others the command is not 0
 header-right : (b : Building) → Accepted b → (portOf b ≤ 15) × (headerOf (portOf b) (commandOf b) ≢ FEND)
@@ -74,14 +84,15 @@ unfolding refusal
 header-right (basicPacket payload) ok = omega arith
 header-right (fullPacket lsf packet) ok = omega arith
 header-right (streamSetup lsf) ok = omega arith
-header-right (txDelay port units) ok = omega (arith, within 15 port OutOfRange ok)
-header-right (persistence port units) ok = omega (arith, within 15 port OutOfRange ok)
-header-right (fullDuplex port on) ok = omega (arith, within 15 port OutOfRange ok)
+header-right (streamData frame) ok = omega arith
+header-right (txDelay port units) ok = omega (arith, within 15 port OutOfRange (ok .not-refused))
+header-right (persistence port units) ok = omega (arith, within 15 port OutOfRange (ok .not-refused))
+header-right (fullDuplex port on) ok = omega (arith, within 15 port OutOfRange (ok .not-refused))
 
 -- ---- builders
 
 pub accepted-is-built : AcceptedIsBuilt
-accepted-is-built b room ok fit = sym (built-accepted b room (sym ok)) ∙ put-yes (frameOf b) room fit
+accepted-is-built b room ok fit = sym (built-accepted b room (sym (ok .not-refused))) ∙ put-yes (frameOf b) room fit
 
 pub built-at-most-1713 : BuiltAtMost1713
 built-at-most-1713 b ok = omega (arith, content-short b ok, esc-length (contentOf b), frame-length (headerOf (portOf b) (commandOf b)) (contentOf b))
@@ -122,8 +133,14 @@ reads-as port command content p f =
     record {
       its-port = ap portAt h ∙ ap Port high;
       its-command = ap commandAt h ∙ ap commandFor low ∙ command-read command;
-      its-payload = frame-payload (headerOf port command) content f
+      its-payload = frame-payload (headerOf port command) content f;
     }
 
 pub built-reads-back : BuiltReadsBack
 built-reads-back b ok = let h = header-right b ok in reads-as (portOf b) (commandOf b) (contentOf b) (h .0) (h .1)
+
+pub stream-content-reads-back : StreamContentReadsBack
+unfolding refusal
+stream-content-reads-back f ok =
+    let r = within-two (f .«lich_idx») (f .«frame_number») (ok .not-refused) in
+    (stream-of f (ok .typed .0) (ok .typed .1) (r .1), stream-crc f (ok .typed .0))

@@ -8,3 +8,4 @@ pub mod Builds
 pub mod Headers
 pub mod ReadBack
 pub mod Kept
+pub mod Streams

@@ -4,8 +4,10 @@ use mathlib.Core.Logic.{_≢_}
 use mathlib.Core.Path.{_≡_}
 use mathlib.Core.Option.{none}
 use mathlib.Core.List.{List}
-use lib.ListN.{length}
+use lib.ListN.{length, drop}
 use Rattle.store.specs.Room.{over}
+use Rattle.crc.specs.Crc.{crcOf}
+use Rattle.protocol.specs.declared.StreamFrame.{StreamFrame}
 use Rattle.kiss.specs.declared.frame.KissCommand.{KissCommand}
 use Rattle.kiss.specs.declared.frame.Built.the-variants.{Frame}
 use Rattle.kiss.specs.declared.frame.PortRead.the-variants.{Port}
@@ -15,7 +17,8 @@ use Rattle.kiss.specs.Escape.{esc}
 use Rattle.kiss.specs.Unescape.{unescaped}
 use Rattle.kiss.specs.Scan.{stretch}
 use Rattle.kiss.specs.Frame.{builtNumber}
-use Rattle.kiss.specs.Build.{Building, portOf, commandOf, contentOf, refusal, frameOf, built}
+use Rattle.kiss.specs.Stream.{streamContent, streamOf}
+use Rattle.kiss.specs.Build.{Building, basicPacket, fullPacket, streamSetup, streamData, txDelay, persistence, fullDuplex, portOf, commandOf, contentOf, refusal, frameOf, built}
 use Rattle.kiss.specs.Read.{portRead, commandRead, decoded}
 
 -- ---- escaping
@@ -34,9 +37,20 @@ EscapedAtMostTwice = (s : List ℕ) → (length s ≤ length (esc s)) × (length
 
 -- ---- builders
 
+-- the arrays in a builder's arguments have their types' lengths
+abbrev pub Typed : Building → Type 0
+Typed (basicPacket payload) = Unit {0}
+Typed (fullPacket lsf packet) = Unit {0}
+Typed (streamSetup lsf) = Unit {0}
+Typed (streamData frame) = (length (frame .«lich_part») ≡ 5) × (length (frame .«stream_data») ≡ 16)
+Typed (txDelay port units) = Unit {0}
+Typed (persistence port units) = Unit {0}
+Typed (fullDuplex port on) = Unit {0}
+
 -- arguments that a builder accepts
-abbrev pub Accepted : Building → Type 0
-Accepted b = refusal b ≡ none
+pub record Accepted (b : Building) : Type 0 where
+  pub typed : Typed b
+  pub not-refused : refusal b ≡ none
 
 -- accepted arguments and room for the frame: the frame stands at the room's start, and what lies beyond stays
 abbrev pub AcceptedIsBuilt : Type 0
@@ -59,3 +73,7 @@ pub record ReadsAs (f : List ℕ) (port : ℕ) (command : KissCommand) (content 
 
 abbrev pub BuiltReadsBack : Type 0
 BuiltReadsBack = (b : Building) → Accepted b → ReadsAs (frameOf b) (portOf b) (commandOf b) (contentOf b)
+
+-- and the content of a stream data frame stands for the very frame that the builder was given, its CRC being that of its number and data
+abbrev pub StreamContentReadsBack : Type 0
+StreamContentReadsBack = (f : StreamFrame) → Accepted (streamData f) → (streamOf (streamContent f) ≡ f) × (crcOf (drop 6 (streamContent f)) ≡ 0)

@@ -1,11 +1,11 @@
 -- Runs of stores, `sets d j xs`: one store or two and the rest after them, from the start on, and two runs in a row. Assumes nothing.
-use mathlib.Core.Path.{_≡_, refl, sym, _∙_}
-use mathlib.Core.List.{List, [], _∷_, _++_}
+use mathlib.Core.Path.{_≡_, _∙_}
+use mathlib.Core.List.{List, [], _∷_, _++_, append-nil}
 use Prim.Native.Nat.{ℕ, suc, _+_, _≤_}
 use native.Mathlib.Nat.{add-zero, add-suc, suc-add}
 use native.Mathlib.Numerals.{add-one}
 use native.Mathlib.Omega.{arith}
-use lib.ListN.{length, set, drop}
+use lib.ListN.{length, set, drop, drop-of-length-le}
 use lib.Seq.{sets, sets-eq}
 use Rattle.store.specs.Room.{over}
 
@@ -17,6 +17,12 @@ put-two d j q h = let p : j + 2 ≡ suc (suc j) = omega arith in rw (p, add-one)
 
 pub put-front : (d e : List ℕ) → length e ≤ length d → sets d 0 e ≡ over e d
 put-front d e h = let p : 0 + length e ≡ length e = omega arith in rw (sets-eq e d 0 (rw p h), p)
+
+-- stores that fill the whole
+pub put-all : (d e : List ℕ) → length e ≡ length d → sets d 0 e ≡ e
+put-all d e h =
+    let p : length d ≤ length e = omega arith in
+    put-front d e (omega arith) ∙ rw (drop-of-length-le d p, append-nil)
 
 pub sets-append : (d : List ℕ) (i : ℕ) (xs ys : List ℕ) → sets d i (xs ++ ys) ≡ sets (sets d i xs) (i + length xs) ys
 sets-append d i [] ys = rw add-zero
