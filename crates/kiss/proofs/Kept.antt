@@ -9,7 +9,7 @@ use native.Mathlib.Omega.{arith}
 use lib.Dec.{ltb, eqb}
 use lib.ListN.{length, length-append}
 use borrow.Author.Tests.{ltb-false, eqb-true}
-use Rattle.choice.specs.Pick.{pick}
+use Rattle.choice.specs.Pick.{pick, and}
 use Rattle.store.specs.Room.{fits, over}
 use Rattle.kiss.specs.declared.frame.KissCommand.{KissCommand}
 use Rattle.kiss.specs.declared.frame.KissCommand.the-variants.{DataFrame, TxDelay, P, FullDuplex}
@@ -17,11 +17,13 @@ use Rattle.kiss.specs.declared.frame.Built.{Built}
 use Rattle.kiss.specs.declared.frame.Built.the-variants.{Frame, PayloadTooBig, LsfWrongSize, OutOfRange, NoRoom}
 use Rattle.kiss.specs.declared.frame.PortRead.the-variants.{Port}
 use Rattle.kiss.specs.declared.frame.CommandRead.the-variants.{Command}
-use Rattle.kiss.specs.Escape.{FEND}
+use Rattle.kiss.specs.Escape.{FEND, escByte, esc, escaped}
+use Rattle.kiss.specs.Unescape.{afterFesc, codes, lay, unescaped}
 use Rattle.kiss.specs.Frame.{commandNumber, headerOf, frame, putFrame, builtNumber}
 use Rattle.kiss.specs.Build.{Building, basicPacket, fullPacket, streamSetup, streamData, txDelay, persistence, fullDuplex, portOf, commandOf, contentOf, refusal, frameOf, unless, built}
 use Rattle.kiss.specs.Read.{portAt, portRead, commandFor, commandAt, commandRead}
 use Rattle.kiss.specs.Promises.{EscapeRoundTrip, EscapedHasNoFend, EscapedAtMostTwice, Accepted, AcceptedIsBuilt, BuiltAtMost1713, RefusedKeepsRoom, ReadsAs, BuiltReadsBack, StreamContentReadsBack}
+use Rattle.kiss.specs.Examples.{starred, same, holds, allHold, StarredHold}
 use Rattle.kiss.proofs.Escapes.{esc-length}
 use Rattle.kiss.proofs.Unescaped.{round-trip}
 use Rattle.kiss.proofs.Frames.{command-small, frame-length, put-yes}
@@ -144,3 +146,9 @@ unfolding refusal
 stream-content-reads-back f ok =
     let r = within-two (f .«lich_idx») (f .«frame_number») (ok .not-refused) in
     (stream-of f (ok .typed .0) (ok .typed .1) (r .1), stream-crc f (ok .typed .0))
+
+-- ---- document 01's examples
+
+pub starred-hold : StarredHold
+unfolding starred allHold holds same and pick esc escByte escaped codes afterFesc lay unescaped built refusal putFrame frame
+starred-hold = refl

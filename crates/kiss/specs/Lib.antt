@@ -6,3 +6,4 @@ pub mod Stream
 pub mod Build
 pub mod Read
 pub mod Promises
+pub mod Examples

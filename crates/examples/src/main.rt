@@ -1,0 +1,63 @@
+// Runs document 01's unstarred examples and the M17 specification's CRC vectors, one to a line. The file stdout has what those documents say.
+use io::print_decimal;
+use io::print_hex;
+use libc::STDOUT_FILENO;
+use protocol::LichCollection;
+use protocol::LsfFrame;
+use protocol::SegmentAnswer;
+ghost use mathlib.Core.Path.{_≡_};
+ghost use Prim.Native.Nat.{ℕ, _<_};
+ghost use lib.ListN.{getD};
+
+fn main() {
+    crc_line(b"CRC of nothing: ", b"");
+    crc_line(b"CRC of A: ", b"A");
+    crc_line(b"CRC of 123456789: ", b"123456789");
+    crc_line(b"CRC of the bytes 00 to FF: ", &every_byte());
+    lsf_line(b"LSF of port 0: ", LsfFrame::packet_basic());
+    lich_line(b"LICH index 5: ", 5);
+    lich_line(b"LICH index 6: ", 6);
+}
+
+fn crc_line(name: &[u8], input: &[u8]) {
+    io::write_all(STDOUT_FILENO, name);
+    print_hex(STDOUT_FILENO, crc::m17_crc(input) as u64, 4);
+    io::write_all(STDOUT_FILENO, b"\n");
+}
+
+fn every_byte() -> [u8; 256]
+    ensures { λ r. ⌜ ((k : ℕ) → k < 256 → getD r k 0 ≡ k) ⌝ }
+{
+    let mut out = [0u8; 256];
+    let mut i: usize = 0;
+    while i < 256 {
+        out[i] = i as u8;
+        i += 1;
+    }
+    out
+}
+
+fn lsf_line(name: &[u8], lsf: LsfFrame) {
+    io::write_all(STDOUT_FILENO, name);
+    let bytes = lsf.0;
+    let mut i = 0;
+    while i < 30 {
+        print_hex(STDOUT_FILENO, bytes[i] as u64, 2);
+        i += 1;
+    }
+    io::write_all(STDOUT_FILENO, b"\n");
+}
+
+// The number with which a new collection answers a segment of that index.
+fn lich_line(name: &[u8], index: u8) {
+    io::write_all(STDOUT_FILENO, name);
+    let set = LichCollection::new().set_segment(index, [0u8; 5]);
+    let answer = set.answer;
+    let number = match answer {
+        SegmentAnswer::Done => 0,
+        SegmentAnswer::IndexOver5 => 6,
+        SegmentAnswer::OutOfBounds => 8,
+    };
+    print_decimal(STDOUT_FILENO, number);
+    io::write_all(STDOUT_FILENO, b"\n");
+}
