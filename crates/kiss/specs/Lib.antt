@@ -1,9 +1,0 @@
-pub mod Escape
-pub mod Unescape
-pub mod Scan
-pub mod Frame
-pub mod Stream
-pub mod Build
-pub mod Read
-pub mod Promises
-pub mod Examples

@@ -1,0 +1,5 @@
+pub mod Frames
+pub mod Builds
+pub mod ReadBack
+pub mod Kept
+pub mod Streams

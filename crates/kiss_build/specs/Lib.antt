@@ -1,0 +1,5 @@
+pub mod Frame
+pub mod Stream
+pub mod Build
+pub mod Examples
+pub mod Promises

@@ -1,0 +1,190 @@
+// The builders of KISS frames, as m17core's kiss.rs has them. Each writes a frame at the start of a room that it is lent.
+use kiss_escape::FEND;
+use kiss_escape::escape;
+use kiss_escape::escaped_len;
+use kiss_read::KissCommand;
+use protocol::StreamFrame;
+ghost use mathlib.Core.Path.{_≡_};
+ghost use mathlib.Core.List.{_++_};
+ghost use Prim.Native.Nat.{_+_, _≤_, _<_};
+ghost use lib.ListN.{length};
+ghost use Rattle.kiss_build.specs.Frame.{headerOf, frame, putFrame};
+ghost use Rattle.kiss_build.specs.Stream.{endMark, numberedData, streamContent};
+ghost use Rattle.kiss_build.specs.Build.{built, basicPacket, fullPacket, streamSetup, streamData, txDelay, persistence, fullDuplex, setting};
+
+pub const PORT_PACKET_BASIC: u8 = 0;
+
+pub const PORT_PACKET_FULL: u8 = 1;
+
+pub const PORT_STREAM: u8 = 2;
+
+// What a builder answers: the length of the frame that it wrote, or why it wrote none.
+pub enum Built {
+    Frame(usize),
+    PayloadTooBig,
+    LsfWrongSize,
+    OutOfRange,
+    NoRoom,
+}
+
+// Request to transmit a packet of up to 822 bytes, to which the TNC adds the type and the CRC.
+pub fn new_basic_packet(payload: &[u8], room: &mut [u8]) -> Built
+    ensures { λ r. ⌜ (r, now (room .exit)) ≡ built (basicPacket (now (payload .entry))) (now (room .entry)) ⌝ }
+{
+    if 822 < payload.len() {
+        return Built::PayloadTooBig;
+    }
+    put_frame(
+        kiss_header(PORT_PACKET_BASIC, KissCommand::DataFrame),
+        b"",
+        payload,
+        room,
+    )
+}
+
+// Request to transmit a packet of up to 825 bytes, type and CRC among them, behind an LSF of the sender's.
+pub fn new_full_packet(lsf: &[u8], packet: &[u8], room: &mut [u8]) -> Built
+    ensures { λ r. ⌜ (r, now (room .exit)) ≡ built (fullPacket (now (lsf .entry)) (now (packet .entry))) (now (room .entry)) ⌝ }
+{
+    if lsf.len() != 30 {
+        return Built::LsfWrongSize;
+    }
+    if 825 < packet.len() {
+        return Built::PayloadTooBig;
+    }
+    put_frame(
+        kiss_header(PORT_PACKET_FULL, KissCommand::DataFrame),
+        lsf,
+        packet,
+        room,
+    )
+}
+
+// Request to begin a stream.
+pub fn new_stream_setup(lsf: &[u8], room: &mut [u8]) -> Built
+    ensures { λ r. ⌜ (r, now (room .exit)) ≡ built (streamSetup (now (lsf .entry))) (now (room .entry)) ⌝ }
+{
+    if lsf.len() != 30 {
+        return Built::LsfWrongSize;
+    }
+    put_frame(
+        kiss_header(PORT_STREAM, KissCommand::DataFrame),
+        b"",
+        lsf,
+        room,
+    )
+}
+
+// Request to transmit a part of a stream.
+pub fn new_stream_data(frame: StreamFrame, room: &mut [u8]) -> Built
+    ensures { λ r. ⌜ (r, now (room .exit)) ≡ built (streamData frame) (now (room .entry)) ⌝ }
+{
+    if 5 < frame.lich_idx {
+        return Built::OutOfRange;
+    }
+    if 32767 < frame.frame_number {
+        return Built::OutOfRange;
+    }
+    let content = stream_content(frame);
+    put_frame(
+        kiss_header(PORT_STREAM, KissCommand::DataFrame),
+        b"",
+        &content,
+        room,
+    )
+}
+
+pub fn new_set_tx_delay(port: u8, units: u8, room: &mut [u8]) -> Built
+    ensures { λ r. ⌜ (r, now (room .exit)) ≡ built (txDelay port units) (now (room .entry)) ⌝ }
+{
+    put_setting(port, KissCommand::TxDelay, units, room)
+}
+
+pub fn new_set_p(port: u8, units: u8, room: &mut [u8]) -> Built
+    ensures { λ r. ⌜ (r, now (room .exit)) ≡ built (persistence port units) (now (room .entry)) ⌝ }
+{
+    put_setting(port, KissCommand::P, units, room)
+}
+
+pub fn set_full_duplex(port: u8, full_duplex: bool, room: &mut [u8]) -> Built
+    ensures { λ r. ⌜ (r, now (room .exit)) ≡ built (fullDuplex port «full_duplex») (now (room .entry)) ⌝ }
+{
+    if full_duplex {
+        return put_setting(port, KissCommand::FullDuplex, 1, room);
+    }
+    put_setting(port, KissCommand::FullDuplex, 0, room)
+}
+
+fn kiss_header(port: u8, command: KissCommand) -> u8
+    requires { ⌜ port < 16 ⌝ }
+    ensures { λ r. ⌜ r ≡ headerOf port command ⌝ }
+{
+    port * 16 + command.proto_value()
+}
+
+// A frame of one byte for any of the 16 ports. The byte may be FEND or FESC, so it is escaped as any content is.
+fn put_setting(port: u8, command: KissCommand, value: u8, room: &mut [u8]) -> Built
+    ensures { λ r. ⌜ (r, now (room .exit)) ≡ setting port command value (now (room .entry)) ⌝ }
+{
+    if 15 < port {
+        return Built::OutOfRange;
+    }
+    put_frame(kiss_header(port, command), b"", &[value], room)
+}
+
+// The LICH part, its index in the top three bits of a byte, and the numbered data with its CRC.
+fn stream_content(frame: StreamFrame) -> [u8; 26]
+    requires { ⌜ (frame .«lich_idx» ≤ 5) × (frame .«frame_number» ≤ 32767) ⌝ }
+    ensures { λ r. ⌜ r ≡ streamContent frame ⌝ }
+{
+    let part = frame.lich_part;
+    let inner = numbered_data(frame);
+    let crc = crc::m17_crc(&inner);
+    let mut content = [0u8; 26];
+    store::copy_in(&part, &mut content, 0);
+    content[5] = frame.lich_idx * 32;
+    store::copy_in(&inner, &mut content, 6);
+    content[24] = (crc / 256) as u8;
+    content[25] = (crc % 256) as u8;
+    content
+}
+
+// The frame's number, its top bit marking the end, and its data.
+fn numbered_data(frame: StreamFrame) -> [u8; 18]
+    requires { ⌜ frame .«frame_number» ≤ 32767 ⌝ }
+    ensures { λ r. ⌜ r ≡ numberedData frame ⌝ }
+{
+    let number = frame.frame_number;
+    let bytes = frame.stream_data;
+    let mut inner = [0u8; 18];
+    inner[0] = (number / 256) as u8 + end_mark(frame.end_of_stream);
+    inner[1] = (number % 256) as u8;
+    store::copy_in(&bytes, &mut inner, 2);
+    inner
+}
+
+fn end_mark(end: bool) -> u8
+    ensures { λ r. ⌜ r ≡ endMark end ⌝ }
+{
+    if end { 0x80 } else { 0 }
+}
+
+// Writes FEND, the header, first and second escaped, FEND at the start of room. Where they do not fit, room is left as it is.
+fn put_frame(header: u8, first: &[u8], second: &[u8], room: &mut [u8]) -> Built
+    requires { ⌜ length (now first) + length (now second) ≤ 855 ⌝ }
+    ensures { λ r. ⌜ (r, now (room .exit)) ≡ putFrame (frame header (now (first .entry) ++ now (second .entry))) (now (room .entry)) ⌝ }
+{
+    let n = escaped_len(first);
+    let m = escaped_len(second);
+    let at = n + 2;
+    let end = at + m;
+    if room.len() <= end {
+        return Built::NoRoom;
+    }
+    room[0] = FEND;
+    room[1] = header;
+    escape(first, &mut room[2..]);
+    escape(second, &mut room[at..]);
+    room[end] = FEND;
+    Built::Frame(end + 1)
+}

@@ -1,0 +1,5 @@
+pub mod Bytes
+pub mod Escapes
+pub mod Codes
+pub mod Unescaped
+pub mod Kept

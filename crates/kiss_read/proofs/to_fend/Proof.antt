@@ -1,0 +1,43 @@
+-- `kiss_read::to_fend` meets its contract. The invariant: the count so far and that of what is left make the count of all. Assumes nothing.
+use Prim.Native.Nat.{_+_, _-_, _≤_}
+use mathlib.Core.Path.{_≡_}
+use native.Mathlib.Omega.{arith}
+use borrow.Author.Needs.{needs}
+use lib.ListN.{length, drop, getD}
+use Rattle.kiss_read.specs.Scan.{notFend, runOf}
+use Rattle.kiss_read.proofs.Scans.{run-on, run-stops, run-ends, is-not, not-is}
+use Rattle.kiss_read.proofs.to_fend.Statement.{statement}
+use Rattle.kiss_read.proofs.to_fend.Tie as tie
+
+abbrev Inv-loop : tie.InvT-loop
+Inv-loop s i₀ i = (i ≤ length s) × (i + runOf notFend (drop i s) ≡ runOf notFend s)
+
+abbrev μ-loop : tie.MeasureT-loop
+μ-loop s i₀ i = length s - i
+
+returns : tie.Need-returns Inv-loop μ-loop
+returns c =
+    let l = c .before .before .before in let s = l .before .args .s .now in
+    omega (arith, run-stops notFend s (l .loop .i) (c .before .before .loop-test .taken) (is-not (getD s (l .loop .i) 0) (c .if1 .taken)))
+
+loop-again : tie.Need-loop-again Inv-loop μ-loop
+loop-again c =
+    let l = c .before .before .before in let s = l .before .args .s .now in
+    omega (arith, run-on notFend s (l .loop .i) (c .before .before .loop-test .taken) (not-is (getD s (l .loop .i) 0) (c .if1 .left)))
+
+returns-2 : tie.Need-returns-2 Inv-loop μ-loop
+returns-2 c = let l = c .before in omega (arith, run-ends notFend (l .before .args .s .now) (l .loop .i) (c .loop-test .left))
+
+pub to-fend-spec : {M : Type 1} → statement M
+to-fend-spec =
+    tie.close
+    (tie.spec
+    Inv-loop
+    μ-loop
+    (λ c. search needs)
+    (λ c. search needs)
+    returns
+    (λ c. search needs)
+    (λ c. search needs)
+    loop-again
+    returns-2)

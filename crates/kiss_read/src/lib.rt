@@ -1,0 +1,123 @@
+// Port, command and payload of a KISS frame, as m17core's kiss.rs reads them. A frame is any slice: only its own bytes are looked at.
+use kiss_escape::FEND;
+use kiss_escape::unescape;
+ghost use mathlib.Core.Path.{_≡_};
+ghost use Rattle.kiss_read.specs.Scan.{isFend, notFend, runOf};
+ghost use Rattle.kiss_read.specs.Read.{commandNumber, portRead, commandFor, commandRead, decoded};
+
+pub enum KissCommand {
+    DataFrame,
+    TxDelay,
+    P,
+    FullDuplex,
+}
+
+impl KissCommand {
+    // A nibble as a command.
+    fn from_proto(value: u8) -> CommandRead
+        ensures { λ r. ⌜ r ≡ commandFor value ⌝ }
+    {
+        match value {
+            0 => CommandRead::Command(KissCommand::DataFrame),
+            1 => CommandRead::Command(KissCommand::TxDelay),
+            2 => CommandRead::Command(KissCommand::P),
+            5 => CommandRead::Command(KissCommand::FullDuplex),
+            3..=4 => CommandRead::UnsupportedKissCommand,
+            6..=255 => CommandRead::UnsupportedKissCommand,
+        }
+    }
+
+    pub fn proto_value(self) -> u8
+        ensures { λ r. ⌜ r ≡ commandNumber self ⌝ }
+    {
+        match self {
+            KissCommand::DataFrame => 0,
+            KissCommand::TxDelay => 1,
+            KissCommand::P => 2,
+            KissCommand::FullDuplex => 5,
+        }
+    }
+}
+
+pub enum PortRead {
+    Port(u8),
+    MalformedKissFrame,
+}
+
+pub enum CommandRead {
+    Command(KissCommand),
+    MalformedKissFrame,
+    UnsupportedKissCommand,
+}
+
+// What `decode_payload` answers: how many bytes of the room it counted, or that the frame has no header or no end.
+pub enum Decoded {
+    Payload(usize),
+    MalformedKissFrame,
+}
+
+// The frame's port. Only 0, 1 and 2 mean something to the TNC.
+pub fn port(frame: &[u8]) -> PortRead
+    ensures { λ r. ⌜ r ≡ portRead (now (frame .entry)) ⌝ }
+{
+    let at = leading_fends(frame);
+    if frame.len() <= at {
+        return PortRead::MalformedKissFrame;
+    }
+    PortRead::Port(frame[at] / 16)
+}
+
+pub fn command(frame: &[u8]) -> CommandRead
+    ensures { λ r. ⌜ r ≡ commandRead (now (frame .entry)) ⌝ }
+{
+    let at = leading_fends(frame);
+    if frame.len() <= at {
+        return CommandRead::MalformedKissFrame;
+    }
+    KissCommand::from_proto(frame[at] % 16)
+}
+
+// Writes what stands between the header and the next FEND, unescaped, at the start of out.
+pub fn decode_payload(frame: &[u8], out: &mut [u8]) -> Decoded
+    ensures { λ r. ⌜ (r, now (out .exit)) ≡ decoded (now (frame .entry)) (now (out .entry)) ⌝ }
+{
+    let at = leading_fends(frame);
+    if frame.len() <= at {
+        return Decoded::MalformedKissFrame;
+    }
+    let start = at + 1;
+    let len = to_fend(&frame[start..]);
+    if frame.len() - start <= len {
+        return Decoded::MalformedKissFrame;
+    }
+    let end = start + len;
+    Decoded::Payload(unescape(&frame[start..end], out))
+}
+
+// How many FENDs stand at the front.
+pub fn leading_fends(s: &[u8]) -> usize
+    ensures { λ r. ⌜ r ≡ runOf isFend (now (s .entry)) ⌝ }
+{
+    let mut i = 0;
+    while i < s.len() {
+        if s[i] != FEND {
+            return i;
+        }
+        i += 1;
+    }
+    i
+}
+
+// How many bytes stand before the first FEND, all of them where there is none.
+pub fn to_fend(s: &[u8]) -> usize
+    ensures { λ r. ⌜ r ≡ runOf notFend (now (s .entry)) ⌝ }
+{
+    let mut i = 0;
+    while i < s.len() {
+        if s[i] == FEND {
+            return i;
+        }
+        i += 1;
+    }
+    i
+}
