@@ -9,7 +9,6 @@ use lib.Dec.{leb, ltb, eqb}
 use lib.ListN.{length, take, drop, getD, replicate}
 use lib.Seq.{getD-take, getD-drop, ext-getD}
 use Rattle.choice.specs.Pick.{pick, pick-all}
-use Rattle.store.specs.Room.{placed}
 use Rattle.store.proofs.Places.{placed-length, placed-there, kept-before, kept-beyond}
 use Rattle.protocol.specs.declared.lich.LichCollection.{LichCollection}
 use Rattle.protocol.specs.declared.lich.ValidSegments.{ValidSegments}

@@ -1,7 +1,6 @@
 -- `protocol::lsf::LsfFrame::recalculate_crc` meets its contract. Assumes nothing.
-use Prim.Native.Nat.{_/_, _%_}
 use mathlib.Core.Path.{_≡_, sym, ap, _∙_}
-use mathlib.Core.List.{[], _∷_, _++_}
+use mathlib.Core.List.{_++_}
 use native.Mathlib.Omega.{arith}
 use borrow.Author.Needs.{needs}
 use lib.ListN.{length, take}
