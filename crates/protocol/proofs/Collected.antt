@@ -34,7 +34,7 @@ by-count c v e = ap (λ (x : ValidSegments). byCount x (c .segments)) e ∙ go (
 
 -- ---- any calls
 
--- what every collection is that set_segment was called on
+-- what every collection is that began as a new one
 pub record Sound (c : LichCollection) : Type 0 where
   pub small : c .mask < 64
   pub thirty : length (c .segments) ≡ 30

@@ -17,7 +17,7 @@ array-share-prefix-bytes : tie.Need-array-share-prefix-bytes
 array-share-prefix-bytes c = omega (arith, thirty (c .before))
 
 slice-aggregate-m17-crc : tie.Need-slice-aggregate-m17-crc
-slice-aggregate-m17-crc c = sym (length-take-le 28 (c .before .before .args .t1 .0) (omega (arith, thirty (c .before .before))))
+slice-aggregate-m17-crc c = sym (length-take-le _ (c .before .before .args .t1 .0) (omega (arith, thirty (c .before .before))))
 
 returns : tie.Need-returns
 unfolding sealed
