@@ -9,7 +9,6 @@ use lib.Dec.{leb, ltb, eqb}
 use lib.ListN.{length, take, drop, getD, replicate}
 use lib.Seq.{getD-take, getD-drop, ext-getD}
 use Rattle.choice.specs.Pick.{pick, pick-all}
-use Rattle.store.specs.Room.{placed}
 use Rattle.store.proofs.Places.{placed-length, placed-there, kept-before, kept-beyond}
 use Rattle.protocol.specs.declared.lich.LichCollection.{LichCollection}
 use Rattle.protocol.specs.declared.lich.ValidSegments.{ValidSegments}
@@ -35,7 +34,7 @@ by-count c v e = ap (λ (x : ValidSegments). byCount x (c .segments)) e ∙ go (
 
 -- ---- any calls
 
--- what every collection is that set_segment was called on
+-- what every collection is that began as a new one
 pub record Sound (c : LichCollection) : Type 0 where
   pub small : c .mask < 64
   pub thirty : length (c .segments) ≡ 30

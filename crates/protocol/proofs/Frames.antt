@@ -1,10 +1,10 @@
 -- Bytes of a frame after code has written two of them, and after its type was set. Assumes nothing.
-use mathlib.Core.Path.{_≡_, refl, sym, ap, _∙_}
+use mathlib.Core.Path.{_≡_, ap, _∙_}
 use mathlib.Core.List.{List, [], _∷_, _++_, append-nil, append-assoc}
 use Prim.Native.Nat.{ℕ, _+_, _/_, _%_, _≤_}
 use native.Mathlib.Nat.{div-add-mod'}
 use native.Mathlib.Omega.{arith}
-use lib.ListN.{length, take, drop, getD, length-append, length-drop, drop-of-length-le}
+use lib.ListN.{length, take, drop, length-append, length-drop, drop-of-length-le}
 use lib.Seq.{sets, sets-eq, take-append-add, take-at, drop-at, drop-drop, getD-drop, length-take-le}
 use Rattle.crc.specs.Crc.{twoBytes, crcOf, sealed}
 use Rattle.protocol.specs.Lsf.{Field, typeField, meta, withBitsAt, retyped, withField}

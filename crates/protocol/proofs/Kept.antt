@@ -1,12 +1,11 @@
 -- The promises of specs/Promises.antt are kept. Assumes nothing.
-use Prim.Native.Nat.{ℕ, suc, _<_}
+use Prim.Native.Nat.{ℕ, _<_}
 use mathlib.Core.Path.{_≡_, refl, sym, ap, _∙_}
 use mathlib.Core.Bool.{Bool, true, false}
 use mathlib.Core.List.{List, [], _∷_}
 use native.Mathlib.Nat.{zero-div}
 use native.Mathlib.Omega.{arith}
 use lib.Dec.{eqb, lit<}
-use lib.ListN.{length}
 use Rattle.choice.specs.Pick.{pick, tests}
 use Rattle.crc.proofs.Kept.{sealed-gives-zero}
 use Rattle.protocol.specs.declared.lsf.Mode.{Mode}
@@ -17,10 +16,10 @@ use Rattle.protocol.specs.declared.lsf.DataType.the-variants.{Reserved, 
 use Rattle.protocol.specs.declared.lsf.EncryptionType.the-variants.{None, Scrambler, Aes, Other}
 use Rattle.protocol.specs.declared.lich.LichCollection.{LichCollection}
 use Rattle.protocol.specs.declared.lich.Assembly.the-variants.{Whole}
-use Rattle.protocol.specs.Lsf.{Field, typeField, bitsAt, withBitsAt, fieldOf, retyped, withField}
+use Rattle.protocol.specs.Lsf.{typeField, bitsAt, withBitsAt, fieldOf, retyped, withField}
 use Rattle.protocol.specs.Kinds.{modeOf, modeNumber, dataTypeOf, dataTypeNumber, encryptionOf, encryptionNumber}
 use Rattle.protocol.specs.Lich.{segmentOf, heard, heardCount, newCollection, withSegment, segmentSet, assembled}
-use Rattle.protocol.specs.Promises.{SetIsRead, SetKeepsTheRest, SetIsSealed, KindsAreRead, Segment, afterAll, isAmong, distinct, SegmentIsTaken, HeardIsDistinct, AllOf, AnyOrderGivesBack}
+use Rattle.protocol.specs.Promises.{SetIsRead, SetKeepsTheRest, SetIsSealed, KindsAreRead, Segment, afterAll, isAmong, SegmentIsTaken, HeardIsDistinct, AnyOrderGivesBack}
 use Rattle.protocol.proofs.Fields.{bits-there, bits-below, bits-above}
 use Rattle.protocol.proofs.Frames.{type-read, addresses-kept, meta-kept, retyped-length}
 use Rattle.protocol.proofs.Masks.{one-more}

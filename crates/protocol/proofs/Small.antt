@@ -1,5 +1,5 @@
 -- The numbers of the kinds are small enough for their fields. Assumes nothing.
-use Prim.Native.Nat.{ℕ, _<_}
+use Prim.Native.Nat.{_<_}
 use lib.Dec.{lit<}
 use Rattle.protocol.specs.declared.lsf.Mode.{Mode}
 use Rattle.protocol.specs.declared.lsf.Mode.the-variants.{Packet, Stream}

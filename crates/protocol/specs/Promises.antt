@@ -4,7 +4,7 @@ use mathlib.Core.Bool.{Bool, true, false}
 use mathlib.Core.Path.{_≡_}
 use mathlib.Core.List.{List, [], _∷_}
 use lib.Dec.{eqb}
-use lib.ListN.{length, take, drop}
+use lib.ListN.{length, take}
 use Rattle.choice.specs.Pick.{pick}
 use Rattle.crc.specs.Crc.{crcOf}
 use Rattle.protocol.specs.declared.lsf.Mode.{Mode}

@@ -155,7 +155,7 @@ impl LsfFrame {
     pub fn set_channel_access_number(mut self, number: u8) -> Self
         ensures { λ r. ⌜ r .0 ≡ withField channelBits (number % 16) (self .0) ⌝ }
     {
-        let bits = wide(number) % 16;
+        let bits = (number as u16) % 16;
         let t = self.lsf_type();
         self = self.with_type(t / 2048 * 2048 + bits * 128 + t % 128);
         self
@@ -165,7 +165,7 @@ impl LsfFrame {
         ensures { λ r. ⌜ r ≡ typeField (self .0) ⌝ }
     {
         let bytes = self.0;
-        wide(bytes[12]) * 256 + wide(bytes[13])
+        (bytes[12] as u16) * 256 + (bytes[13] as u16)
     }
 
     // The frame with that type field, and its CRC renewed.
@@ -217,10 +217,4 @@ fn encryption_number(kind: EncryptionType) -> u16
         EncryptionType::Aes => 2,
         EncryptionType::Other => 3,
     }
-}
-
-fn wide(x: u8) -> u16
-    ensures { λ r. ⌜ r ≡ x ⌝ }
-{
-    x as u16
 }

@@ -1,10 +1,8 @@
 -- `protocol::lich::LichCollection::try_assemble` meets its contract. Assumes nothing.
-use Prim.Native.Nat.{ℕ}
-use mathlib.Core.Path.{_≡_, sym, _∙_}
-use mathlib.Core.List.{List}
+use mathlib.Core.Path.{sym, _∙_}
 use borrow.Author.Needs.{needs}
 use Rattle.choice.specs.Pick.{tests}
-use Rattle.protocol.specs.declared.lich.ValidSegments.the-variants.{Count, OutOfBounds as NoCount}
+use Rattle.protocol.specs.declared.lich.ValidSegments.the-variants.{OutOfBounds as NoCount}
 use Rattle.protocol.proofs.Collected.{by-count}
 use Rattle.protocol.proofs.lich.LichCollection.try_assemble.Statement.{statement}
 use Rattle.protocol.proofs.lich.LichCollection.try_assemble.Tie as tie

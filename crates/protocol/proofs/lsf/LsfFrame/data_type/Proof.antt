@@ -1,36 +1,26 @@
+-- `protocol::lsf::LsfFrame::data_type` meets its contract. Assumes nothing.
 use borrow.Author.Needs.{needs}
 use Rattle.choice.specs.Pick.{pick, tests}
 use Rattle.protocol.specs.Kinds.{dataTypeOf}
 use Rattle.protocol.specs.Lsf.{fieldOf, bitsAt}
 use Rattle.protocol.proofs.lsf.LsfFrame.data_type.Statement.{statement}
 use Rattle.protocol.proofs.lsf.LsfFrame.data_type.Tie as tie
-use Rattle.protocol.proofs.lsf.LsfFrame.data_type.Reads as reads
-use Rattle.protocol.proofs.lsf.LsfFrame.data_type.Lts as lts
-use Rattle.protocol.proofs.lsf.LsfFrame.lsf_type.Reads as lsf-type-reads
 
--- src/lsf.rt:69:20
-lsf-type-requires : tie.Need-lsf-type-requires
-lsf-type-requires c κs = search needs
-
--- src/lsf.rt:66:5
 returns : tie.Need-returns
 unfolding dataTypeOf fieldOf bitsAt pick
 returns c = rw (← c .before .lsf-type .ensures, c .match .keys1)
 
--- src/lsf.rt:66:5
 returns-2 : tie.Need-returns-2
 unfolding dataTypeOf fieldOf bitsAt pick
 returns-2 c = rw (← c .before .lsf-type .ensures, c .match .keys2)
 
--- src/lsf.rt:66:5
 returns-3 : tie.Need-returns-3
 unfolding dataTypeOf fieldOf bitsAt pick
 returns-3 c = rw (← c .before .lsf-type .ensures, c .match .keys3)
 
--- src/lsf.rt:66:5
 returns-4 : tie.Need-returns-4
 unfolding dataTypeOf fieldOf bitsAt
 returns-4 c = rw (← c .before .lsf-type .ensures) (search tests)
 
 pub data-type-spec : {M : Type 1} → statement M
-data-type-spec = tie.close (tie.spec lsf-type-requires returns returns-2 returns-3 returns-4)
+data-type-spec = tie.close (tie.spec (λ c κs. search needs) returns returns-2 returns-3 returns-4)

@@ -1,5 +1,6 @@
 -- `protocol::lsf::LsfFrame::lsf_type` meets its contract. Assumes nothing.
-use Prim.Native.Nat.{ℕ, _<_}
+use Prim.Native.Nat.{ℕ}
+use mathlib.Core.Path.{refl}
 use mir.Syntax.{w8}
 use mir.Val.{Fits}
 use native.Mathlib.Omega.{arith}
@@ -13,23 +14,23 @@ byte : (c : tie.Start) (i : ℕ) → Fits w8 (getD (c .args .self .0) i 0)
 byte c i = search needs
 
 mul-result : tie.Need-mul-result
-mul-result c = omega (arith, byte (c .before .before) 12)
+mul-result c = omega (arith, byte (c .before) 12)
 
 add-result : tie.Need-add-result
-add-result c = omega (arith, byte (c .before .before .before) 12, byte (c .before .before .before) 13)
+add-result c = omega (arith, byte (c .before) 12, byte (c .before) 13)
 
 returns : tie.Need-returns
 unfolding typeField
-returns c = omega arith
+returns c = refl
 
 pub lsf-type-spec : {M : Type 1} → statement M
 lsf-type-spec =
     tie.close
     (tie.spec
     (λ c. search needs)
-    (λ c κs. search needs)
+    (λ c. search needs)
     mul-result
     (λ c. search needs)
-    (λ c κs. search needs)
+    (λ c. search needs)
     add-result
     returns)

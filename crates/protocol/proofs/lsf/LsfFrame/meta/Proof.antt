@@ -4,7 +4,7 @@ use mathlib.Core.Path.{_≡_, ap, _∙_}
 use mathlib.Core.List.{List}
 use native.Mathlib.Omega.{arith}
 use borrow.Author.Needs.{needs}
-use lib.ListN.{length, take, drop, replicate, length-take, length-drop}
+use lib.ListN.{length, replicate, length-take, length-drop}
 use Rattle.store.specs.declared.Copied.{Copied}
 use Rattle.store.proofs.Copies.{copied-yes}
 use Rattle.protocol.specs.Lsf.{part, meta}

@@ -1,7 +1,6 @@
 -- `protocol::lsf::LsfFrame::recalculate_crc` meets its contract. Assumes nothing.
-use Prim.Native.Nat.{_/_, _%_}
 use mathlib.Core.Path.{_≡_, sym, ap, _∙_}
-use mathlib.Core.List.{[], _∷_, _++_}
+use mathlib.Core.List.{_++_}
 use native.Mathlib.Omega.{arith}
 use borrow.Author.Needs.{needs}
 use lib.ListN.{length, take}
@@ -18,7 +17,7 @@ array-share-prefix-bytes : tie.Need-array-share-prefix-bytes
 array-share-prefix-bytes c = omega (arith, thirty (c .before))
 
 slice-aggregate-m17-crc : tie.Need-slice-aggregate-m17-crc
-slice-aggregate-m17-crc c = sym (length-take-le 28 (c .before .before .args .t1 .0) (omega (arith, thirty (c .before .before))))
+slice-aggregate-m17-crc c = sym (length-take-le _ (c .before .before .args .t1 .0) (omega (arith, thirty (c .before .before))))
 
 returns : tie.Need-returns
 unfolding sealed

@@ -18,7 +18,7 @@ add-with-type-2 c = omega (arith, data-type-lt (c .before .before .args .kind))
 
 returns : tie.Need-returns
 unfolding withBitsAt
-returns c = set-type _ dataTypeBits _ _ (c .with-type .ensures) (cc)
+returns c = set-type _ dataTypeBits _ _ (c .with-type .ensures) (rw (← c .before .before .lsf-type .ensures, ← c .before .data-type-number .ensures))
 
 pub set-data-type-spec : {M : Type 1} → statement M
 set-data-type-spec =

@@ -18,7 +18,7 @@ add-with-type-2 c = omega (arith, encryption-lt (c .before .before .args .kind))
 
 returns : tie.Need-returns
 unfolding withBitsAt
-returns c = set-type _ encryptionBits _ _ (c .with-type .ensures) (cc)
+returns c = set-type _ encryptionBits _ _ (c .with-type .ensures) (rw (← c .before .before .lsf-type .ensures, ← c .before .encryption-number .ensures))
 
 pub set-encryption-type-spec : {M : Type 1} → statement M
 set-encryption-type-spec =
