@@ -1,6 +1,6 @@
 -- `protocol::lich::LichCollection::set_segment` meets its contract. Assumes nothing.
 use Prim.Native.Nat.{ℕ, _+_, _*_, _≤_}
-use mathlib.Core.Path.{_≡_, ap, _∙_}
+use mathlib.Core.Path.{_≡_, _∙_}
 use mathlib.Core.List.{List}
 use native.Mathlib.Omega.{arith}
 use borrow.Author.Needs.{needs}
@@ -8,8 +8,7 @@ use lib.ListN.{length}
 use lib.Seq.{sets-eq}
 use Rattle.choice.specs.Pick.{tests}
 use Rattle.store.specs.Room.{placed}
-use Rattle.store.specs.declared.Copied.{Copied}
-use Rattle.store.proofs.Copies.{copied-yes}
+use Rattle.store.proofs.Copies.{copied-in}
 use Rattle.protocol.specs.Lich.{withSegment, segmentSet}
 use Rattle.protocol.proofs.Masks.{or-is}
 use Rattle.protocol.proofs.lich.LichCollection.set_segment.Statement.{statement}
@@ -35,7 +34,7 @@ returns-3 c =
     let b = c .before .before in let t = b .before .before .before .before in let s = t .before .before .before in
     let a = s .args in let d = a .self .segments in let at : ℕ = 5 * (a .counter) in
     let fits : at + length (a .t3) ≤ length d = omega (arith, thirty s, five s) in
-    let e : b .copy-in .last .1 .0 ≡ placed (a .t3) d at = ap (λ (p : Copied × List ℕ). p .1) (b .copy-in .ensures ∙ copied-yes (a .t3) d at fits) ∙ sets-eq (a .t3) d at fits in
+    let e : b .copy-in .last .1 .0 ≡ placed (a .t3) d at = copied-in (a .t3) d at (b .copy-in .ensures) fits ∙ sets-eq (a .t3) d at fits in
     rw (e, or-is (a .self .mask) (a .counter) (omega arith) (omega arith)) (search tests)
 
 pub set-segment-spec : {M : Type 1} → statement M

@@ -1,12 +1,11 @@
 -- `protocol::lsf::LsfFrame::meta` meets its contract: the part that is copied fills the room. Assumes nothing.
 use Prim.Native.Nat.{ℕ}
-use mathlib.Core.Path.{_≡_, ap, _∙_}
+use mathlib.Core.Path.{_≡_, _∙_}
 use mathlib.Core.List.{List}
 use native.Mathlib.Omega.{arith}
 use borrow.Author.Needs.{needs}
 use lib.ListN.{length, replicate, length-take, length-drop}
-use Rattle.store.specs.declared.Copied.{Copied}
-use Rattle.store.proofs.Copies.{copied-yes}
+use Rattle.store.proofs.Copies.{copied-in}
 use Rattle.protocol.specs.Lsf.{part, meta}
 use Rattle.protocol.proofs.Frames.{stored-last}
 use Rattle.protocol.proofs.lsf.LsfFrame.meta.Statement.{statement}
@@ -23,7 +22,7 @@ unfolding meta
 returns c =
     let s = c .before .before .before .before .before .before in let m = part 14 14 (s .args .self .0) in let z : List ℕ = replicate 14 0 in
     let n : length m ≡ 14 = simp (length-take, length-drop) (omega (arith, thirty s)) in
-    ap (λ (p : Copied × List ℕ). p .1) (c .before .copy-in .ensures ∙ copied-yes m z 0 (omega arith)) ∙ stored-last z m 0 (omega arith)
+    copied-in m z 0 (c .before .copy-in .ensures) (omega arith) ∙ stored-last z m 0 (omega arith)
 
 pub meta-spec : {M : Type 1} → statement M
 meta-spec =
