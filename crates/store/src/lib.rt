@@ -1,11 +1,11 @@
-// Bytes put into a store that the caller lends.
+// Bytes put into a store that the caller lends, and moved in it.
 ghost use mathlib.Core.Path.{_≡_};
 ghost use Prim.Native.Nat.{_+_, _≤_};
-ghost use lib.ListN.{length};
+ghost use lib.ListN.{length, take, drop};
 ghost use lib.Seq.{sets};
-ghost use Rattle.store.specs.Room.{copied};
+ghost use Rattle.store.specs.Room.{over, copied, shifted};
 
-// What `copy_in` answers: that the bytes stand there now, or that they do not fit.
+// What a call answers: that it is done, or that the store has no such place.
 pub enum Copied {
     Done,
     NoRoom,
@@ -23,6 +23,31 @@ pub fn copy_in(src: &[u8], dst: &mut [u8], at: usize) -> Copied
     }
     put(src, dst, at);
     Copied::Done
+}
+
+// Moves the bytes from index from up to index to to the start of dst. Where dst has no such bytes, it is left as it is.
+pub fn shift(dst: &mut [u8], from: usize, to: usize) -> Copied
+    ensures { λ r. ⌜ (r, now (dst .exit)) ≡ shifted (now (dst .entry)) from to ⌝ }
+{
+    if dst.len() < to {
+        return Copied::NoRoom;
+    }
+    if to < from {
+        return Copied::NoRoom;
+    }
+    move_down(dst, from, to - from);
+    Copied::Done
+}
+
+fn move_down(dst: &mut [u8], by: usize, count: usize)
+    requires { ⌜ by + count ≤ length (now dst) ⌝ }
+    ensures { λ _. ⌜ now (dst .exit) ≡ over (take count (drop by (now (dst .entry)))) (now (dst .entry)) ⌝ }
+{
+    let mut k = 0;
+    while k < count {
+        dst[k] = dst[k + by];
+        k += 1;
+    }
 }
 
 fn put(src: &[u8], dst: &mut [u8], at: usize)
