@@ -1,4 +1,5 @@
 pub mod Meaning
 pub mod Reader
 pub mod Calls
+pub mod Inside
 pub mod Promises

@@ -2,12 +2,12 @@
 use kiss_escape::FEND;
 use kiss_read::leading_fends;
 use kiss_read::to_fend;
-ghost use mathlib.Core.Bool.{true};
 ghost use mathlib.Core.Path.{_≡_};
 ghost use Prim.Native.Nat.{_≤_};
-ghost use lib.ListN.{length, take, drop};
-ghost use Rattle.kiss_buffer.specs.Reader.{newReader, settle};
-ghost use Rattle.kiss_buffer.specs.Calls.{bufferOf, standsFirst, soundBuffer, written, nextFrame, frameIn};
+ghost use lib.ListN.{length, take};
+ghost use Rattle.kiss_buffer.specs.Reader.{newReader, STORE, settle, front, isSome};
+ghost use Rattle.kiss_buffer.specs.Calls.{bufferOf, standsFirst, soundBuffer, written, nextFrame, orEmpty, frameIn};
+ghost use Rattle.kiss_buffer.specs.Inside.{settleAt, compacted, accepted};
 
 // Room for the longest frame that a builder writes: 2 * 855 bytes of content, a header and two FENDs.
 pub const MAX_FRAME_LEN: usize = 1713;
@@ -43,4 +43,203 @@ pub enum NextAnswer {
 pub struct NextFrame {
     pub answer: NextAnswer,
     pub buffer: KissBuffer,
+}
+
+impl KissBuffer {
+    pub fn new() -> Self
+        ensures { λ r. ⌜ r ≡ bufferOf newReader ⌝ }
+    {
+        KissBuffer {
+            filled: 0,
+            taken: false,
+        }
+    }
+
+    // The Rust's buf_remaining and did_write in one: takes of the offered bytes what there is room for. It first drops a frame that was handed out, and a full store
+    // that holds no whole frame: somebody sends what is no frame, or a FEND got lost.
+    pub fn write(self, offered: &[u8], store: &mut [u8]) -> Written
+        ensures { λ r. ⌜ (r, now (store .exit)) ≡ written self (now (offered .entry)) (now (store .entry)) ⌝ }
+    {
+        if store.len() != MAX_FRAME_LEN {
+            return refuse(WriteAnswer::WrongStore, self);
+        }
+        if !self.is_sound(store) {
+            return refuse(WriteAnswer::OutOfBounds, self);
+        }
+        let filled = self.filled;
+        if self.taken {
+            let kept = compact(store, 1, filled);
+            return accept(offered, store, kept);
+        }
+        if filled < MAX_FRAME_LEN {
+            return accept(offered, store, filled);
+        }
+        if holds_frame(store) {
+            return refuse(WriteAnswer::Full, self);
+        }
+        accept(offered, store, 0)
+    }
+
+    // The next whole frame is brought to the store's start. It stays there until the next call, which drops it.
+    pub fn next_frame(self, store: &mut [u8]) -> NextFrame
+        ensures { λ r. ⌜ (r, now (store .exit)) ≡ nextFrame self (now (store .entry)) ⌝ }
+    {
+        if store.len() != MAX_FRAME_LEN {
+            return NextFrame {
+                answer: NextAnswer::WrongStore,
+                buffer: self,
+            };
+        }
+        if !self.is_sound(store) {
+            return NextFrame {
+                answer: NextAnswer::OutOfBounds,
+                buffer: self,
+            };
+        }
+        let held = compact(store, self.taken as usize, self.filled);
+        let len = front_len(&store[..held]);
+        if len == 0 {
+            return NextFrame {
+                answer: NextAnswer::Nothing,
+                buffer: KissBuffer {
+                    filled: held,
+                    taken: false,
+                },
+            };
+        }
+        NextFrame {
+            answer: NextAnswer::Frame(len),
+            buffer: KissBuffer {
+                filled: held,
+                taken: true,
+            },
+        }
+    }
+
+    // The frame that next_frame handed out, FEND to FEND, as the part of the store that it stands in; no byte where there is none.
+    pub fn frame(self, store: &[u8]) -> &[u8]
+        ensures { λ r. ⌜ now r ≡ frameIn self (now (store .entry)) ⌝ }
+    {
+        let n = self.frame_len(store);
+        &store[..n]
+    }
+
+    fn frame_len(self, store: &[u8]) -> usize
+        ensures { λ r. ⌜ (r ≤ length (now (store .entry))) × (take r (now (store .entry)) ≡ frameIn self (now (store .entry))) ⌝ }
+    {
+        if store.len() != MAX_FRAME_LEN {
+            return 0;
+        }
+        if !self.is_sound(store) {
+            return 0;
+        }
+        if !self.taken {
+            return 0;
+        }
+        let filled = self.filled;
+        front_len(&store[..filled])
+    }
+
+    fn is_sound(self, store: &[u8]) -> bool
+        requires { ⌜ length (now store) ≡ STORE ⌝ }
+        ensures { λ r. ⌜ r ≡ soundBuffer self (now (store .entry)) ⌝ }
+    {
+        let filled = self.filled;
+        if MAX_FRAME_LEN < filled {
+            return false;
+        }
+        if self.taken {
+            return stands_first(&store[..filled]);
+        }
+        true
+    }
+}
+
+fn refuse(answer: WriteAnswer, buffer: KissBuffer) -> Written
+    ensures { λ r. ⌜ r ≡ record { answer = answer; count = 0; buffer = buffer } ⌝ }
+{
+    Written {
+        answer: answer,
+        count: 0,
+        buffer: buffer,
+    }
+}
+
+// Takes what fits of the offered bytes, behind the kept ones.
+fn accept(offered: &[u8], store: &mut [u8], kept: usize) -> Written
+    requires { ⌜ (length (now store) ≡ STORE) × (kept ≤ STORE) ⌝ }
+    ensures { λ r. ⌜ (r, now (store .exit)) ≡ accepted kept (now (offered .entry)) (now (store .entry)) ⌝ }
+{
+    let room = MAX_FRAME_LEN - kept;
+    let mut count = offered.len();
+    if room < count {
+        count = room;
+    }
+    store::copy_in(&offered[..count], store, kept);
+    Written {
+        answer: WriteAnswer::Done,
+        count: count,
+        buffer: KissBuffer {
+            filled: kept + count,
+            taken: false,
+        },
+    }
+}
+
+// Of the held bytes from index from on, those before the first FEND and all but the last of its run go; the rest is brought to the store's start.
+fn compact(store: &mut [u8], from: usize, filled: usize) -> usize
+    requires { ⌜ (from ≤ filled) × (filled ≤ length (now store)) ⌝ }
+    ensures { λ r. ⌜ (r, now (store .exit)) ≡ compacted from filled (now (store .entry)) ⌝ }
+{
+    let at = from + settle_at(&store[from..filled]);
+    store::shift(store, at, filled);
+    filled - at
+}
+
+// Where the last FEND of the first run of FENDs stands; the length where there is no FEND.
+fn settle_at(h: &[u8]) -> usize
+    ensures { λ r. ⌜ r ≡ settleAt (now (h .entry)) ⌝ }
+{
+    let i = to_fend(h);
+    let run = leading_fends(&h[i..]);
+    if run == 0 {
+        return i;
+    }
+    i + run - 1
+}
+
+// The length of the frame at the front, or 0 where no FEND closes one.
+fn front_len(h: &[u8]) -> usize
+    ensures { λ r. ⌜ r ≡ length (orEmpty (front (now (h .entry)))) ⌝ }
+{
+    if h.len() == 0 {
+        return 0;
+    }
+    let n = to_fend(&h[1..]);
+    if h.len() - 1 <= n {
+        return 0;
+    }
+    n + 2
+}
+
+fn holds_frame(h: &[u8]) -> bool
+    ensures { λ r. ⌜ r ≡ isSome (front (settle (now (h .entry)))) ⌝ }
+{
+    let at = settle_at(h);
+    front_len(&h[at..]) != 0
+}
+
+fn stands_first(h: &[u8]) -> bool
+    ensures { λ r. ⌜ r ≡ standsFirst (now (h .entry)) ⌝ }
+{
+    if h.len() < 2 {
+        return false;
+    }
+    if h[0] != FEND {
+        return false;
+    }
+    if h[1] == FEND {
+        return false;
+    }
+    to_fend(&h[2..]) < h.len() - 2
 }

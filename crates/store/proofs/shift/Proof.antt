@@ -21,4 +21,4 @@ returns-3 c =
 pub shift-spec : {M : Type 1} → statement M
 shift-spec =
     tie.close
-    (tie.spec returns returns-2 (λ c. search needs) (λ c κs. search needs) (λ c. search needs) returns-3)
+    (tie.spec returns returns-2 (λ c κs. search needs) (λ c. search needs) returns-3)
