@@ -16,13 +16,10 @@ use Rattle.kiss_read.specs.Scan.{isFend, notFend, stretch, afterFends, runOf}
 use Rattle.kiss_read.proofs.Scans.{run-within, stretch-found, stretch-none}
 use Rattle.kiss_buffer.specs.Meaning.{enclosed}
 use Rattle.kiss_buffer.specs.Reader.{fromFend, lastFend, settle, front}
+use Rattle.kiss_buffer.specs.Inside.{settleAt}
 use Rattle.kiss_buffer.proofs.Settled.{Begun, none-begun, begins, begun, settled, settled-stays, settled-begins}
 
 -- ---- settle
-
--- the first FEND, and from there to the last of its run; the length where there is none
-abbrev pub settleAt : List ℕ → ℕ
-settleAt h = runOf notFend h + (runOf isFend (drop (runOf notFend h) h) - 1)
 
 pub from-fend : (h : List ℕ) → fromFend h ≡ drop (runOf notFend h) h
 unfolding fromFend runOf pick

@@ -1,2 +1,3 @@
 pub mod Settled
 pub mod Indices
+pub mod Inner

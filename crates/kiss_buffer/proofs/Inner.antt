@@ -1,0 +1,146 @@
+-- What the reader's inner functions find and leave. Assumes nothing.
+use mathlib.Core.Path.{_≡_, refl, sym, ap, _∙_}
+use mathlib.Core.Bool.{Bool, true, false, not}
+use mathlib.Core.Option.{Option, none, some, Option·map}
+use mathlib.Core.List.{List, [], _∷_, _++_}
+use Prim.Native.Nat.{ℕ, zero, suc, _+_, _-_, _≤_, _<_}
+use native.Mathlib.Nat.{le-of-suc-le-suc, not-suc-le-zero, sub-zero, zero-sub, suc-sub-suc}
+use native.Mathlib.Omega.{arith}
+use lib.Dec.{ltb, eqb}
+use lib.ListN.{length, take, drop, getD, length-append, length-drop, length-take}
+use lib.Seq.{sets, sets-eq, take-all, take-nil, drop-drop}
+use borrow.Author.Tests.{eq-eqb, ne-eqb, ltb-true, ltb-false}
+use Rattle.choice.specs.Pick.{pick, and}
+use Rattle.store.specs.Room.{over}
+use Rattle.kiss_escape.specs.Escape.{FEND}
+use Rattle.kiss_read.specs.Scan.{isFend, notFend, stretch, runOf}
+use Rattle.kiss_read.proofs.Scans.{run-within, stretch-found, stretch-none}
+use Rattle.kiss_buffer.specs.Meaning.{enclosed}
+use Rattle.kiss_buffer.specs.Reader.{settle, front, isSome}
+use Rattle.kiss_buffer.specs.Calls.{standsFirst, orEmpty}
+use Rattle.kiss_buffer.specs.Inside.{settleAt}
+use Rattle.kiss_buffer.proofs.Indices.{settle-at, settle-within, front-found, front-none}
+
+-- a part that goes on to the end
+pub to-the-end : (i : ℕ) (h : List ℕ) → take (length h - i) (drop i h) ≡ drop i h
+to-the-end i h = take-all (length h - i) (drop i h) (simp length-drop (omega arith))
+
+-- ---- settle_at
+
+module _ (h : List ℕ) (i run : ℕ) (e : i ≡ runOf notFend h) (f : run ≡ runOf isFend (take (length h - i) (drop i h))) where
+  pub settle-sum : i + (run - 1) ≡ settleAt h
+  settle-sum = ap (λ (n : ℕ). i + (n - 1)) (f ∙ ap (runOf isFend) (to-the-end i h)) ∙ ap (λ (n : ℕ). n + (runOf isFend (drop n h) - 1)) e
+
+  pub settle-short : i + run ≤ length h
+  settle-short = omega (arith, run-within notFend h, run-within isFend (take (length h - i) (drop i h)), length-take (length h - i) (drop i h), length-drop i h)
+
+-- ---- front_len
+
+pub front-length-found : (h : List ℕ) → runOf notFend (drop 1 h) < length (drop 1 h) → length (orEmpty (front h)) ≡ runOf notFend (drop 1 h) + 2
+unfolding front
+front-length-found h l =
+    let n = runOf notFend (drop 1 h) in
+    rw (stretch-found (drop 1 h) l) (omega (arith, length-append (take n (drop 1 h)) (FEND ∷ []), length-take n (drop 1 h)))
+
+pub front-length-none : (h : List ℕ) → length (drop 1 h) ≤ runOf notFend (drop 1 h) → length (orEmpty (front h)) ≡ 0
+front-length-none h l = rw (front-none h l)
+
+-- ---- holds_frame
+
+pub front-some : (h : List ℕ) → not (eqb (length (orEmpty (front h))) 0) ≡ isSome (front h)
+unfolding front
+front-some h = by (stretch (drop 1 h))
+  where
+    by : (o : Option (List ℕ)) → not (eqb (length (orEmpty (Option·map enclosed o))) 0) ≡ isSome (Option·map enclosed o)
+    by none = refl
+    by (some s) = rw (ne-eqb (length (enclosed s)) 0 (λ e. omega arith))
+
+-- ---- stands_first
+
+getD-any : (l : List ℕ) (i a b : ℕ) → i < length l → getD l i a ≡ getD l i b
+getD-any [] i a b h = absurd (not-suc-le-zero h)
+getD-any (x ∷ l) zero a b h = refl
+getD-any (x ∷ l) (suc i) a b h = getD-any l i a b (le-of-suc-le-suc h)
+
+stretch-some : (s : List ℕ) → isSome (stretch s) ≡ ltb (runOf notFend s) (length s)
+stretch-some s = by (ltb (runOf notFend s) (length s)) refl
+  where
+    by : (t : Bool) → ltb (runOf notFend s) (length s) ≡ t → isSome (stretch s) ≡ t
+    by true e = rw (stretch-found s (ltb-true (runOf notFend s) (length s) e))
+    by false e = rw (stretch-none s (ltb-false (runOf notFend s) (length s) e))
+
+no-second : (a : Bool) (b : Bool) → and a (and false b) ≡ false
+unfolding and
+no-second true b = refl
+no-second false b = refl
+
+pub stands-short : (h : List ℕ) → length h < 2 → standsFirst h ≡ false
+unfolding standsFirst
+stands-short [] h = no-second _ _
+stands-short (x ∷ []) h = no-second _ _
+stands-short (x ∷ y ∷ l) h = absurd (omega arith)
+
+pub stands-unopened : (h : List ℕ) → (getD h 0 0 ≡ FEND → ⊥) → standsFirst h ≡ false
+unfolding standsFirst and
+stands-unopened h f = rw (ne-eqb (getD h 0 0) FEND f)
+
+pub stands-empty : (h : List ℕ) → 2 ≤ length h → getD h 1 0 ≡ FEND → standsFirst h ≡ false
+unfolding standsFirst
+stands-empty h l e = rw (getD-any h 1 FEND 0 (omega arith), eq-eqb (getD h 1 0) FEND e) (no-second _ _)
+
+pub stands-closed : (h : List ℕ) → 2 ≤ length h → getD h 0 0 ≡ FEND → (getD h 1 0 ≡ FEND → ⊥) → standsFirst h ≡ ltb (runOf notFend (drop 2 h)) (length (drop 2 h))
+unfolding standsFirst and
+stands-closed h l e f = rw (eq-eqb (getD h 0 0) FEND e, getD-any h 1 FEND 0 (omega arith), ne-eqb (getD h 1 0) FEND f) (stretch-some (drop 2 h))
+
+-- ---- compact
+
+drop-take : (m n : ℕ) (l : List ℕ) → drop m (take n l) ≡ take (n - m) (drop m l)
+drop-take zero n l = rw sub-zero
+drop-take (suc m) n [] = rw (take-nil n, take-nil (n - suc m))
+drop-take (suc m) zero (x ∷ l) = rw zero-sub
+drop-take (suc m) (suc n) (x ∷ l) = rw suc-sub-suc (drop-take m n l)
+
+-- the held bytes from `from` on are the part that is settled
+pub held-part : (from filled : ℕ) (store : List ℕ) → take (filled - from) (drop from store) ≡ drop from (take filled store)
+held-part from filled store = sym (drop-take from filled store)
+
+-- the settled bytes as a part of the store
+pub settled-part : (from filled n : ℕ) (store : List ℕ) → from ≤ filled → filled ≤ length store → n ≡ settleAt (take (filled - from) (drop from store))
+    → take (filled - (from + n)) (drop (from + n) store) ≡ settle (drop from (take filled store))
+settled-part from filled n store h k e =
+    let p = held-part from filled store in
+    held-part (from + n) filled store
+    ∙ sym (drop-drop n from (take filled store))
+    ∙ ap (λ (m : ℕ). drop m (drop from (take filled store))) (e ∙ ap settleAt p)
+    ∙ sym (settle-at (drop from (take filled store)))
+
+pub settled-within : (from filled n : ℕ) (store : List ℕ) → from ≤ filled → filled ≤ length store → n ≡ settleAt (take (filled - from) (drop from store)) → from + n ≤ filled
+settled-within from filled n store h k e =
+    omega (arith, settle-within (take (filled - from) (drop from store)), length-take (filled - from) (drop from store), length-drop from store)
+
+-- ---- accept
+
+-- bytes stored behind the first k of a room
+pub behind-kept : (d xs : List ℕ) (k : ℕ) → k + length xs ≤ length d → sets d k xs ≡ over (take k d ++ xs) d
+behind-kept d xs k h =
+    let n : length (take k d ++ xs) ≡ k + length xs = omega (arith, length-append (take k d) xs, length-take k d) in
+    sets-eq xs d k h ∙ ap (λ (m : ℕ). take k d ++ xs ++ drop m d) (sym n)
+
+-- ---- frame
+
+pub front-within : (h : List ℕ) → length (orEmpty (front h)) ≤ length h
+front-within h = by (ltb (runOf notFend (drop 1 h)) (length (drop 1 h))) refl
+  where
+    by : (t : Bool) → ltb (runOf notFend (drop 1 h)) (length (drop 1 h)) ≡ t → length (orEmpty (front h)) ≤ length h
+    by true e = let l = ltb-true (runOf notFend (drop 1 h)) (length (drop 1 h)) e in omega (arith, front-length-found h l, length-drop 1 h)
+    by false e = omega (arith, front-length-none h (ltb-false (runOf notFend (drop 1 h)) (length (drop 1 h)) e))
+
+-- the frame at the front is the bytes themselves
+pub front-part : (h : List ℕ) → getD h 0 0 ≡ FEND → take (length (orEmpty (front h))) h ≡ orEmpty (front h)
+front-part h b = by (ltb (runOf notFend (drop 1 h)) (length (drop 1 h))) refl
+  where
+    by : (t : Bool) → ltb (runOf notFend (drop 1 h)) (length (drop 1 h)) ≡ t → take (length (orEmpty (front h))) h ≡ orEmpty (front h)
+    by true e =
+        let l = ltb-true (runOf notFend (drop 1 h)) (length (drop 1 h)) e in
+        ap (λ (n : ℕ). take n h) (front-length-found h l) ∙ sym (ap orEmpty (front-found h b l))
+    by false e = rw (front-none h (ltb-false (runOf notFend (drop 1 h)) (length (drop 1 h)) e))
