@@ -1,3 +1,4 @@
 pub mod Settled
 pub mod Indices
 pub mod Inner
+pub mod Cases

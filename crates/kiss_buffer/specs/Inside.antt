@@ -19,6 +19,7 @@ compacted from filled store = (length (settle (drop from (take filled store))), 
 
 -- the offered bytes that fit stand behind the kept ones
 unfoldable pub accepted : ℕ → List ℕ → List ℕ → Written × List ℕ
-accepted kept offered store =
-    (record { answer = Done; count = min (length offered) (STORE - kept); buffer = record { filled = kept + min (length offered) (STORE - kept); taken = false } },
-    over (take kept store ++ take (min (length offered) (STORE - kept)) offered) store)
+accepted kept offered store = (
+  record { answer = Done; count = min (length offered) (STORE - kept); buffer = record { filled = kept + min (length offered) (STORE - kept); taken = false } },
+  over (take kept store ++ take (min (length offered) (STORE - kept)) offered) store,
+)

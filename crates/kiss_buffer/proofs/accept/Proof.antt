@@ -36,6 +36,6 @@ accept-spec =
     (λ c. search needs)
     (λ c. omega (arith, length-take (c .before .if1 .count) (c .before .before .before .before .args .offered .now), counted (c .before)))
     (λ c κs. search needs)
-    (λ c. omega (arith, counted (c .before .before .before .before .before .before )))
+    (λ c. omega (arith, counted (c .before .before .before .before .before .before)))
     (λ c. search needs)
     returns)

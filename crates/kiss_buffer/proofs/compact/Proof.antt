@@ -23,7 +23,7 @@ returns c =
     let at : ℕ = a .from + k .settle-at .result in
     let p = settled-part (a .from) (a .filled) (k .settle-at .result) d (s .pre .0) (s .pre .1) (k .settle-at .ensures) in
     let n : a .filled - at ≡ length (settle (drop (a .from) (take (a .filled) d))) =
-        omega (arith, ap length p, length-take (a .filled - at) (drop at d), length-drop at d, within k, s .pre .1) in
+    omega (arith, ap length p, length-take (a .filled - at) (drop at d), length-drop at d, within k, s .pre .1) in
     let e = shifted-in d at (a .filled) (c .before .before .shift .ensures) (within k) (s .pre .1) ∙ ap (λ (l : List ℕ). over l d) p in
     λ t. (n t, e t)
 
@@ -37,6 +37,6 @@ compact-spec =
     (λ c κs. search needs)
     (λ c. omega (arith, within c))
     (λ c κs. search needs)
-    (λ c. omega (arith, within (c .before .before .before .before )))
+    (λ c. omega (arith, within (c .before .before .before .before)))
     (λ c. search needs)
     returns)

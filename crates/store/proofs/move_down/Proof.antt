@@ -21,9 +21,11 @@ loop-holds c = (search needs, refl, refl)
 
 loop-again : tie.Need-loop-again Inv-loop μ-loop
 loop-again c =
-    let l = c .before .before in let a = l .before .args in
-    (search needs, simp length-set (omega arith),
-    ap (λ (x : List ℕ). set x (l .loop .k) (getD x (l .loop .k + a .by) 0)) (l .loop .inv .2) ∙ moved-more (a .dst .now) (a .by) (l .loop .k) (omega arith))
+    let l = c .before .before in let a = l .before .args in (
+      search needs,
+      simp length-set (omega arith),
+      ap (λ (x : List ℕ). set x (l .loop .k) (getD x (l .loop .k + a .by) 0)) (l .loop .inv .2) ∙ moved-more (a .dst .now) (a .by) (l .loop .k) (omega arith),
+    )
 
 returns : tie.Need-returns Inv-loop μ-loop
 returns c =

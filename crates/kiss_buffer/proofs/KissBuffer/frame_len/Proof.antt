@@ -1,47 +1,44 @@
+-- `kiss_buffer::KissBuffer::frame_len` meets its contract. Assumes nothing.
+use mathlib.Core.Path.{_≡_, sym, _∙_}
+use native.Mathlib.Omega.{arith}
 use borrow.Author.Needs.{needs}
+use borrow.Author.Tests.{not-true, not-false}
+use lib.ListN.{length-take}
+use Rattle.kiss_buffer.proofs.Cases.{sound-filled, frame-wrong, frame-unsound, frame-untaken, frame-part}
 use Rattle.kiss_buffer.proofs.KissBuffer.frame_len.Statement.{statement}
 use Rattle.kiss_buffer.proofs.KissBuffer.frame_len.Tie as tie
-use Rattle.kiss_buffer.proofs.KissBuffer.frame_len.Reads as reads
-use Rattle.kiss_buffer.proofs.KissBuffer.frame_len.Lts as lts
-use Rattle.kiss_buffer.proofs.KissBuffer.is_sound.Reads as is-sound-reads
-use Rattle.kiss_buffer.proofs.front_len.Reads as front-len-reads
 
--- src/lib.rt:131:13
 returns : tie.Need-returns
-returns c = ?
+returns c = let a = c .before .before .args in (omega arith, frame-wrong (a .self) (a .store .now) (c .if1 .taken))
 
--- src/lib.rt:133:13
-is-sound-requires : tie.Need-is-sound-requires
-is-sound-requires c κs = search needs
-
--- src/lib.rt:134:13
 returns-2 : tie.Need-returns-2
-returns-2 c = ?
+returns-2 c =
+    let i = c .before in let a = i .before .before .before .args in
+    (omega arith, frame-unsound (a .self) (a .store .now) (i .before .if1 .left) (sym (i .is-sound .ensures) ∙ not-true _ (c .if2 .taken)))
 
--- src/lib.rt:137:13
 returns-3 : tie.Need-returns-3
-returns-3 c = ?
+returns-3 c =
+    let e = c .before .before in let i = e .before in let a = i .before .before .before .args in
+    (omega arith, frame-untaken (a .self) (a .store .now) (i .before .if1 .left) (sym (i .is-sound .ensures) ∙ not-false _ (e .if2 .left)) (not-true _ (c .if3 .taken)))
 
--- src/lib.rt:140:19
-slice-aggregate-front-len : tie.Need-slice-aggregate-front-len
-slice-aggregate-front-len c = ?
-
--- src/lib.rt:140:9
-front-len-requires : tie.Need-front-len-requires
-front-len-requires c κs = search needs
-
--- src/lib.rt:127:5
 returns-4 : tie.Need-returns-4
-returns-4 c = ?
+returns-4 c =
+    let t = c .before .before in let e = t .before .before in let i = e .before in let a = i .before .before .before .args in
+    frame-part (a .self) (a .store .now) (i .before .if1 .left) (sym (i .is-sound .ensures) ∙ not-false _ (e .if2 .left)) (not-false _ (t .if3 .left)) (c .front-len .result) (c .front-len .ensures)
+
+slice-aggregate-front-len : tie.Need-slice-aggregate-front-len
+slice-aggregate-front-len c =
+    let e = c .before .before .before in let i = e .before in let a = i .before .before .before .args in
+    omega (arith, length-take (a .self .filled) (a .store .now), sound-filled (a .self) (a .store .now) (sym (i .is-sound .ensures) ∙ not-false _ (e .if2 .left)), i .before .if1 .left)
 
 pub frame-len-spec : {M : Type 1} → statement M
 frame-len-spec =
     tie.close
     (tie.spec
     returns
-    is-sound-requires
+    (λ c κs. search needs)
     returns-2
     returns-3
     slice-aggregate-front-len
-    front-len-requires
+    (λ c κs. search needs)
     returns-4)

@@ -1,78 +1,95 @@
+-- `kiss_buffer::KissBuffer::next_frame` meets its contract. Assumes nothing.
+use Prim.Native.Nat.{ℕ}
+use mathlib.Core.Bool.{true, false}
+use mathlib.Core.Path.{_≡_, sym, ap, _∙_}
+use mathlib.Core.List.{List}
+use native.Mathlib.Omega.{arith}
 use borrow.Author.Needs.{needs}
+use borrow.Author.Tests.{not-true, not-false}
+use mir.Val.{boolByte}
+use lib.ListN.{length}
+use lib.Seq.{length-take-le}
+use Rattle.kiss_buffer.specs.declared.NextAnswer.the-variants.{Frame, Nothing}
+use Rattle.kiss_buffer.specs.Reader.{front}
+use Rattle.kiss_buffer.specs.Calls.{readerOf, soundBuffer, orEmpty}
+use Rattle.kiss_buffer.proofs.Cases.{sound-filled, sound-some, next-wrong, next-unsound, next-sound, heldFrom, compacted-count, compacted-left, compacted-within, compacted-held, settle-flush, found-none, found-some}
 use Rattle.kiss_buffer.proofs.KissBuffer.next_frame.Statement.{statement}
 use Rattle.kiss_buffer.proofs.KissBuffer.next_frame.Tie as tie
-use Rattle.kiss_buffer.proofs.KissBuffer.next_frame.Reads as reads
-use Rattle.kiss_buffer.proofs.KissBuffer.next_frame.Lts as lts
-use Rattle.kiss_buffer.proofs.KissBuffer.is_sound.Reads as is-sound-reads
-use Rattle.kiss_buffer.proofs.compact.Reads as compact-reads
-use Rattle.kiss_buffer.proofs.front_len.Reads as front-len-reads
 
--- src/lib.rt:88:13
+-- past the tests
+module _ (e : tie.Else2) where
+  abbrev start : tie.Start
+  start = e .before .before .before .before .before
+
+  full : length (start .args .store .now) ≡ 1713
+  full = e .before .before .before .if1 .left
+
+  sound : soundBuffer (start .args .self) (start .args .store .now) ≡ true
+  sound = sym (e .before .is-sound .ensures) ∙ not-false _ (e .if2 .left)
+
+-- once the store is compacted
+module _ (k : tie.After-compact) where
+  abbrev e : tie.Else2
+  e = k .before .before .before
+
+  abbrev from : ℕ
+  from = boolByte (start e .args .self .taken)
+
+  abbrev filled : ℕ
+  filled = start e .args .self .filled
+
+  abbrev store : List ℕ
+  store = start e .args .store .now
+
+-- once the front is scanned
+module _ (c : tie.After-front-len) where
+  abbrev k : tie.After-compact
+  k = c .before .before .before .before
+
+  scanned : c .front-len .result ≡ length (orEmpty (front (heldFrom (from k) (filled k) (store k))))
+  scanned = c .front-len .ensures ∙ ap (λ (l : List ℕ). length (orEmpty (front l))) (compacted-held (from k) (filled k) (store k) (k .compact .ensures))
+
 returns : tie.Need-returns
-returns c = ?
+returns c = let a = c .before .before .args in next-wrong (a .self) (a .store .now) (c .if1 .taken)
 
--- src/lib.rt:93:13
-is-sound-requires : tie.Need-is-sound-requires
-is-sound-requires c κs = search needs
-
--- src/lib.rt:94:13
-same-length : tie.Need-same-length
-same-length c = search needs
-
--- src/lib.rt:94:13
 returns-2 : tie.Need-returns-2
-returns-2 c = ?
+returns-2 c =
+    let i = c .before in let a = i .before .before .before .before .args in
+    next-unsound (a .self) (a .store .now) (i .before .before .if1 .left) (sym (i .is-sound .ensures) ∙ not-true _ (c .if2 .taken))
 
--- src/lib.rt:99:35
-cast-compact : tie.Need-cast-compact
-cast-compact c = search needs
-
--- src/lib.rt:99:13
 compact-requires : tie.Need-compact-requires
-compact-requires c κs = ?
+compact-requires c κs =
+    let g = c .before .before in let a = start g .args in
+    (sound-some (a .self) (a .store .now) (sound g), omega (arith, sound-filled (a .self) (a .store .now) (sound g), full g))
 
--- src/lib.rt:100:29
-slice-reshare-prefix-front-len : tie.Need-slice-reshare-prefix-front-len
-slice-reshare-prefix-front-len c = ?
-
--- src/lib.rt:100:29
-slice-aggregate-front-len : tie.Need-slice-aggregate-front-len
-slice-aggregate-front-len c = ?
-
--- src/lib.rt:100:13
-front-len-requires : tie.Need-front-len-requires
-front-len-requires c κs = search needs
-
--- src/lib.rt:102:13
-same-length-2 : tie.Need-same-length-2
-same-length-2 c = search needs
-
--- src/lib.rt:102:13
 returns-3 : tie.Need-returns-3
-returns-3 c = ?
+returns-3 c =
+    let f = c .before in let q = k f in let a = start (e q) .args in let p = q .compact .ensures in
+    (λ t. (record { answer = Nothing; buffer = record { filled = compacted-count (from q) (filled q) (store q) p t; taken = false } }, compacted-left (from q) (filled q) (store q) p t))
+    ∙ found-none (readerOf (a .self) (a .store .now)) (store q) (heldFrom (from q) (filled q) (store q)) (settle-flush (a .self) (a .store .now)) (sym (scanned f) ∙ c .if3 .taken)
+    ∙ next-sound (a .self) (a .store .now) (full (e q)) (sound (e q))
 
--- src/lib.rt:84:5
-same-length-3 : tie.Need-same-length-3
-same-length-3 c = search needs
-
--- src/lib.rt:84:5
 returns-4 : tie.Need-returns-4
-returns-4 c = ?
+returns-4 c =
+    let f = c .before in let q = k f in let a = start (e q) .args in let p = q .compact .ensures in
+    (λ t. (record { answer = Frame (f .front-len .result); buffer = record { filled = compacted-count (from q) (filled q) (store q) p t; taken = true } }, compacted-left (from q) (filled q) (store q) p t))
+    ∙ found-some (readerOf (a .self) (a .store .now)) (store q) (heldFrom (from q) (filled q) (store q)) (settle-flush (a .self) (a .store .now)) (f .front-len .result) (scanned f) (c .if3 .left)
+    ∙ next-sound (a .self) (a .store .now) (full (e q)) (sound (e q))
 
 pub next-frame-spec : {M : Type 1} → statement M
 next-frame-spec =
     tie.close
     (tie.spec
     returns
-    is-sound-requires
-    same-length
+    (λ c κs. search needs)
+    (λ c. search needs)
     returns-2
-    cast-compact
+    (λ c. search needs)
     compact-requires
-    slice-reshare-prefix-front-len
-    slice-aggregate-front-len
-    front-len-requires
-    same-length-2
+    (λ c. let q = c .before .before in compacted-within (from q) (filled q) (store q) (q .compact .ensures))
+    (λ c. let q = c .before .before .before in sym (length-take-le (q .compact .result) (q .compact .last .0) (compacted-within (from q) (filled q) (store q) (q .compact .ensures))))
+    (λ c κs. search needs)
+    (λ c. search needs)
     returns-3
-    same-length-3
+    (λ c. search needs)
     returns-4)
