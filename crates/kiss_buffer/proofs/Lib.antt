@@ -1,2 +1,4 @@
 pub mod Settled
 pub mod Indices
+pub mod Frames
+pub mod Split
