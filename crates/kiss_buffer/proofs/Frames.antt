@@ -76,7 +76,13 @@ unfolding framesOf stretch pick
 cut-frames [] w = refl
 cut-frames (b ∷ p) w = rw (cut-frames p w, stretch-append p (FEND ∷ w), stretch-append p (FEND ∷ []), append-assoc)
 
--- ---- an empty stretch gives nothing
+-- ---- what a FEND opens
+
+pub fend-frames : (w : List ℕ) → framesOf (FEND ∷ w) ≡ opened (stretch w) ++ framesOf w
+unfolding framesOf pick
+fend-frames w = refl
+
+-- an empty stretch gives nothing
 
 fend-alone : framesOf (FEND ∷ []) ≡ []
 unfolding framesOf stretch pick

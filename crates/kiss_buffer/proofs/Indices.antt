@@ -9,14 +9,14 @@ use native.Mathlib.Numerals.{add-two}
 use native.Mathlib.Omega.{arith}
 use lib.ListN.{length, take, drop, getD, length-drop}
 use lib.Seq.{drop-drop, take-suc}
-use borrow.Author.Tests.{eqb-true}
+use borrow.Author.Tests.{eqb-true, not-false}
 use Rattle.choice.specs.Pick.{pick}
 use Rattle.kiss_escape.specs.Escape.{FEND}
 use Rattle.kiss_read.specs.Scan.{isFend, notFend, stretch, afterFends, runOf}
 use Rattle.kiss_read.proofs.Scans.{run-within, stretch-found, stretch-none}
 use Rattle.kiss_buffer.specs.Meaning.{enclosed}
 use Rattle.kiss_buffer.specs.Reader.{fromFend, lastFend, settle, front}
-use Rattle.kiss_buffer.proofs.Settled.{Begun, none-begun, begins, begun, settled, settled-stays, settled-begins}
+use Rattle.kiss_buffer.proofs.Settled.{Begun, none-begun, begins, begun, settled, settled-begun, settled-stays, begun-begins}
 
 -- ---- settle
 
@@ -60,7 +60,7 @@ pub settle-settle : (h : List ℕ) → settle (settle h) ≡ settle h
 settle-settle h = settled-stays (settled h)
 
 pub settle-begins : (h : List ℕ) → 1 ≤ length (settle h) → getD (settle h) 0 0 ≡ FEND
-settle-begins h l = settled-begins (settled h) l
+settle-begins h l = begun-begins (settled-begun (settled h)) l
 
 -- ---- the frame at the front
 
@@ -76,11 +76,7 @@ run-stopped p (b ∷ s) l = by (p b) refl (run-stopped p s) l
     by false e ih k = e
 
 pub stops-at-fend : (s : List ℕ) → runOf notFend s < length s → getD s (runOf notFend s) 0 ≡ FEND
-stops-at-fend s l = by (isFend (getD s (runOf notFend s) 0)) refl (run-stopped notFend s l)
-  where
-    by : (t : Bool) → isFend (getD s (runOf notFend s) 0) ≡ t → not t ≡ false → getD s (runOf notFend s) 0 ≡ FEND
-    by true e k = eqb-true (getD s (runOf notFend s) 0) FEND e
-    by false e k = let z : _≡_ {A = ℕ} 0 1 = cc in absurd (omega arith)
+stops-at-fend s l = eqb-true (getD s (runOf notFend s) 0) FEND (not-false (isFend (getD s (runOf notFend s) 0)) (run-stopped notFend s l))
 
 pub front-found : (h : List ℕ) → getD h 0 0 ≡ FEND → runOf notFend (drop 1 h) < length (drop 1 h) → front h ≡ some (take (runOf notFend (drop 1 h) + 2) h)
 unfolding front

@@ -2,3 +2,4 @@ pub mod Settled
 pub mod Indices
 pub mod Frames
 pub mod Split
+pub mod Steps
