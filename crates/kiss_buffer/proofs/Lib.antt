@@ -3,3 +3,6 @@ pub mod Indices
 pub mod Frames
 pub mod Split
 pub mod Steps
+pub mod Boxes
+pub mod Runs
+pub mod Kept
