@@ -1,26 +1,24 @@
 -- The reader's calls on record and store are its calls on what it holds, and a sound reader stays sound. Assumes nothing.
-use mathlib.Core.Path.{_≡_, refl, sym, ap, _∙_}
+use mathlib.Core.Path.{_≡_, refl, ap, _∙_}
 use mathlib.Core.Bool.{Bool, true, false}
 use mathlib.Core.Option.{Option, none, some, Option·map}
-use mathlib.Core.List.{List, [], _∷_, _++_}
+use mathlib.Core.List.{List, _∷_}
 use Prim.Native.Nat.{ℕ, _≤_}
 use native.Mathlib.Omega.{arith}
-use lib.Dec.{leb, eqb}
-use lib.ListN.{length, take, drop, length-append, length-take, length-drop}
+use lib.Dec.{eqb}
+use lib.ListN.{length, drop, length-append, length-take, length-drop}
 use lib.Seq.{take-append-seam}
 use borrow.Author.Tests.{eq-eqb, eqb-true, le-leb}
 use Rattle.choice.specs.Pick.{pick, and}
 use Rattle.store.specs.Room.{over}
-use Rattle.kiss_escape.specs.Escape.{FEND}
-use Rattle.kiss_read.specs.Scan.{isFend, stretch}
-use Rattle.kiss_buffer.specs.declared.KissBuffer.{KissBuffer}
+use Rattle.kiss_read.specs.Scan.{stretch}
 use Rattle.kiss_buffer.specs.declared.WriteAnswer.the-variants.{Done, Full, WrongStore, OutOfBounds}
 use Rattle.kiss_buffer.specs.declared.Written.{Written}
 use Rattle.kiss_buffer.specs.declared.NextAnswer.the-variants.{Frame, Nothing}
 use Rattle.kiss_buffer.specs.declared.NextFrame.{NextFrame}
 use Rattle.kiss_buffer.specs.Meaning.{enclosed}
-use Rattle.kiss_buffer.specs.Reader.{Reader, newReader, STORE, settle, flush, front, isSome, next, afterNext, refused, takes, afterWrite}
-use Rattle.kiss_buffer.specs.Calls.{readerOf, bufferOf, standsFirst, soundBuffer, notWritten, writes, written, nextAnswer, notSought, found, nextFrame, orEmpty, frameIn}
+use Rattle.kiss_buffer.specs.Reader.{Reader, newReader, STORE, flush, front, isSome, next, afterNext, refused, takes, afterWrite}
+use Rattle.kiss_buffer.specs.Calls.{readerOf, bufferOf, standsFirst, soundBuffer, notWritten, writes, written, nextAnswer, found, nextFrame, frameIn}
 use Rattle.kiss_buffer.specs.Promises.{Box, newBox, afterWritten, afterNextFrame, Sound}
 use Rattle.kiss_buffer.proofs.Settled.{Settled, bare, alone, fronted, settled}
 use Rattle.kiss_buffer.proofs.Steps.{length-settle, length-flush, length-write}
@@ -90,6 +88,10 @@ handed-stands (fronted b x e) = rw e (by (stretch x))
     by none = refl
     by (some t) = refl
 
+-- and it is what `frame` then gives
+abbrev pub handedOut : Box → List ℕ
+handedOut x = frameIn (afterNextFrame x .buffer) (afterNextFrame x .store)
+
 module _ (x : Box) (s : Sound x) where
   pub next-sound : Sound (afterNextFrame x)
   unfolding afterNext next
@@ -98,8 +100,7 @@ module _ (x : Box) (s : Sound x) where
       rw (next-box x s)
       (box-sound (afterNext r) (x .store) (s .its-store) (omega (arith, held-short x s, length-flush r, length-settle (flush r))) (handed-stands (settled (flush r))))
 
-  -- and `frame` gives it
-  pub next-frame : (f : List ℕ) → next (reading x) ≡ some f → frameIn (afterNextFrame x .buffer) (afterNextFrame x .store) ≡ f
+  pub next-frame : (f : List ℕ) → next (reading x) ≡ some f → handedOut x ≡ f
   unfolding frameIn pick and afterNext next
   next-frame f e =
       let y : Box = afterNextFrame x in
@@ -116,7 +117,8 @@ module _ (x : Box) (o : List ℕ) (s : Sound x) where
   write-works = rw (eq-eqb (length (x .store)) STORE (s .its-store), s .its-state)
 
   module _ (n : refused (reading x) ≡ false) where
-    write-done : written (x .buffer) o (x .store) ≡ (record { answer = Done; count = takes (reading x) o; buffer = bufferOf (afterWrite (reading x) o) }, over (afterWrite (reading x) o .held) (x .store))
+    write-done : written (x .buffer) o (x .store)
+        ≡ (record { answer = Done; count = takes (reading x) o; buffer = bufferOf (afterWrite (reading x) o) }, over (afterWrite (reading x) o .held) (x .store))
     unfolding writes pick
     write-done = write-works ∙ rw n
 
@@ -154,7 +156,8 @@ unfolding written writes pick
 done-says x o = by (eqb (length (x .store)) STORE) (soundBuffer (x .buffer) (x .store)) (refused (reading x)) _ refl refl refl
   where
     by : (a b c : Bool) (done : Written × List ℕ) → eqb (length (x .store)) STORE ≡ a → soundBuffer (x .buffer) (x .store) ≡ b → refused (reading x) ≡ c
-        → pick a (pick b (pick c (notWritten Full (x .buffer) (x .store)) done) (notWritten OutOfBounds (x .buffer) (x .store))) (notWritten WrongStore (x .buffer) (x .store)) .0 .answer ≡ Done
+        → pick a (pick b (pick c (notWritten Full (x .buffer) (x .store)) done) (notWritten OutOfBounds (x .buffer) (x .store)))
+        (notWritten WrongStore (x .buffer) (x .store)) .0 .answer ≡ Done
         → Sound x × (refused (reading x) ≡ false)
     by true true false done e f g k = (record { its-store = eqb-true (length (x .store)) STORE e; its-state = f }, g)
     by true true true done e f g k = let z : _≡_ {A = ℕ} 0 1 = cc in absurd (omega arith)

@@ -1,5 +1,5 @@
 -- The promises of specs/Promises.antt are kept. Assumes nothing.
-use mathlib.Core.Path.{_≡_, _∙_}
+use mathlib.Core.Path.{_∙_}
 use mathlib.Core.List.{List}
 use Rattle.kiss_build.specs.Build.{Building}
 use Rattle.kiss_build.proofs.Kept.{built-reads-back}

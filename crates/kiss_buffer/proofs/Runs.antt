@@ -4,13 +4,13 @@ use mathlib.Core.Option.{Option, none, some}
 use mathlib.Core.List.{List, [], _∷_, _++_}
 use Prim.Native.Nat.{ℕ, zero, suc, _≤_, _<_}
 use native.Mathlib.Omega.{arith}
-use lib.ListN.{length, take, drop, length-take, length-drop}
+use lib.ListN.{length, take, drop, length-drop}
 use Rattle.kiss_buffer.specs.Meaning.{framesOf}
-use Rattle.kiss_buffer.specs.Reader.{Reader, newReader, STORE, flush, next, afterNext, takes, afterWrite}
-use Rattle.kiss_buffer.specs.Calls.{nextAnswer, written, nextFrame, frameIn}
+use Rattle.kiss_buffer.specs.Reader.{Reader, STORE, flush, next, takes, afterWrite}
+use Rattle.kiss_buffer.specs.Calls.{nextAnswer, written}
 use Rattle.kiss_buffer.specs.Promises.{Box, newBox, afterWritten, afterNextFrame, Drain, none-left, handed-out, Run, over, write, Sound}
 use Rattle.kiss_buffer.proofs.Steps.{next-frames, search-frames, Still, still-new, still-after, still-ends, write-frames, still-not-refused, takes-some, next-shorter}
-use Rattle.kiss_buffer.proofs.Boxes.{reading, new-sound, held-short, next-answer, next-reads, none-answered, some-answered, next-sound, next-frame, write-count, write-answer, write-reads, write-sound}
+use Rattle.kiss_buffer.proofs.Boxes.{reading, new-sound, held-short, next-answer, next-reads, none-answered, some-answered, handedOut, next-sound, next-frame, write-count, write-answer, write-reads, write-sound}
 
 -- ---- frames are taken until none is left
 
@@ -18,7 +18,8 @@ abbrev Taken : Box → List (List ℕ) → Box → Type 0
 Taken x fs y = (w : List ℕ) → framesOf (flush (reading x) ++ w) ≡ fs ++ framesOf (reading y .held ++ w)
 
 -- one frame, then the others
-taken-one : (x y : Box) (fs : List (List ℕ)) (f : List ℕ) → Sound x → next (reading x) ≡ some f → Taken (afterNextFrame x) fs y → Taken x (frameIn (afterNextFrame x .buffer) (afterNextFrame x .store) ∷ fs) y
+taken-one : (x y : Box) (fs : List (List ℕ)) (f : List ℕ) → Sound x → next (reading x) ≡ some f → Taken (afterNextFrame x) fs y
+    → Taken x (handedOut x ∷ fs) y
 taken-one x y fs f s e t w =
     next-frames (reading x) w f (held-short x s) e
     ∙ ap (λ (r : Reader). f ∷ framesOf (flush r ++ w)) (sym (next-reads x s))
@@ -74,7 +75,7 @@ drains (suc n) x s h = by (next (reading x)) refl (drains n (afterNextFrame x) (
     by none e ih = ([], afterNextFrame x, none-left (next-answer x s ∙ ap nextAnswer e))
     by (some f) e ih =
         let d = ih (rw (next-reads x s) (omega (arith, next-shorter (reading x) f e))) in
-        (frameIn (afterNextFrame x .buffer) (afterNextFrame x .store) ∷ d .0, d .1, handed-out (next-answer x s ∙ ap nextAnswer e) (d .2))
+        (handedOut x ∷ d .0, d .1, handed-out (next-answer x s ∙ ap nextAnswer e) (d .2))
 
 pub drain-exists : (x : Box) → Sound x → (fs : List (List ℕ)) × (y : Box) × Drain x fs y
 drain-exists x s = drains (suc (length (flush (reading x)))) x s (omega arith)
