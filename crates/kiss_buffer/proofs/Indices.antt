@@ -1,23 +1,24 @@
 -- The reader's scans by index: where `settle` puts the front, and where the frame at the front ends. Assumes nothing.
-use mathlib.Core.Path.{_≡_, refl, sym, ap, _∙_}
+use mathlib.Core.Path.{_≡_, refl, _∙_}
 use mathlib.Core.Bool.{Bool, true, false, not}
-use mathlib.Core.Option.{none, some, Option·map}
-use mathlib.Core.List.{List, [], _∷_, _++_}
+use mathlib.Core.Option.{Option, none, some, Option·map}
+use mathlib.Core.List.{List, [], _∷_}
 use Prim.Native.Nat.{ℕ, suc, _+_, _-_, _≤_, _<_}
 use native.Mathlib.Nat.{le-of-suc-le-suc}
 use native.Mathlib.Numerals.{add-two}
 use native.Mathlib.Omega.{arith}
+use lib.Dec.{ltb}
 use lib.ListN.{length, take, drop, getD, length-drop}
 use lib.Seq.{drop-drop, take-suc}
-use borrow.Author.Tests.{eqb-true}
+use borrow.Author.Tests.{eqb-true, ltb-true, ltb-false, not-false}
 use Rattle.choice.specs.Pick.{pick}
 use Rattle.kiss_escape.specs.Escape.{FEND}
 use Rattle.kiss_read.specs.Scan.{isFend, notFend, stretch, afterFends, runOf}
 use Rattle.kiss_read.proofs.Scans.{run-within, stretch-found, stretch-none}
 use Rattle.kiss_buffer.specs.Meaning.{enclosed}
-use Rattle.kiss_buffer.specs.Reader.{fromFend, lastFend, settle, front}
+use Rattle.kiss_buffer.specs.Reader.{fromFend, lastFend, settle, front, isSome}
 use Rattle.kiss_buffer.specs.Inside.{settleAt}
-use Rattle.kiss_buffer.proofs.Settled.{Begun, none-begun, begins, begun, settled, settled-stays, settled-begins}
+use Rattle.kiss_buffer.proofs.Settled.{Begun, none-begun, begins, begun, settled, settled-begun, settled-stays, begun-begins}
 
 -- ---- settle
 
@@ -57,7 +58,7 @@ pub settle-settle : (h : List ℕ) → settle (settle h) ≡ settle h
 settle-settle h = settled-stays (settled h)
 
 pub settle-begins : (h : List ℕ) → 1 ≤ length (settle h) → getD (settle h) 0 0 ≡ FEND
-settle-begins h l = settled-begins (settled h) l
+settle-begins h l = begun-begins (settled-begun (settled h)) l
 
 -- ---- the frame at the front
 
@@ -73,11 +74,7 @@ run-stopped p (b ∷ s) l = by (p b) refl (run-stopped p s) l
     by false e ih k = e
 
 pub stops-at-fend : (s : List ℕ) → runOf notFend s < length s → getD s (runOf notFend s) 0 ≡ FEND
-stops-at-fend s l = by (isFend (getD s (runOf notFend s) 0)) refl (run-stopped notFend s l)
-  where
-    by : (t : Bool) → isFend (getD s (runOf notFend s) 0) ≡ t → not t ≡ false → getD s (runOf notFend s) 0 ≡ FEND
-    by true e k = eqb-true (getD s (runOf notFend s) 0) FEND e
-    by false e k = let z : _≡_ {A = ℕ} 0 1 = cc in absurd (omega arith)
+stops-at-fend s l = eqb-true (getD s (runOf notFend s) 0) FEND (not-false (isFend (getD s (runOf notFend s) 0)) (run-stopped notFend s l))
 
 pub front-found : (h : List ℕ) → getD h 0 0 ≡ FEND → runOf notFend (drop 1 h) < length (drop 1 h) → front h ≡ some (take (runOf notFend (drop 1 h) + 2) h)
 unfolding front
@@ -87,3 +84,20 @@ front-found (b ∷ h) e l = rw (stretch-found h l, add-two, take-suc h (runOf no
 pub front-none : (h : List ℕ) → length (drop 1 h) ≤ runOf notFend (drop 1 h) → front h ≡ none
 unfolding front
 front-none h l = rw (stretch-none (drop 1 h) l)
+
+-- ---- whether a FEND closes what follows
+
+pub stretch-tested : (s : List ℕ) → isSome (stretch s) ≡ ltb (runOf notFend s) (length s)
+stretch-tested s = by (ltb (runOf notFend s) (length s)) refl
+  where
+    by : (t : Bool) → ltb (runOf notFend s) (length s) ≡ t → isSome (stretch s) ≡ t
+    by true e = rw (stretch-found s (ltb-true (runOf notFend s) (length s) e))
+    by false e = rw (stretch-none s (ltb-false (runOf notFend s) (length s) e))
+
+pub front-tested : (h : List ℕ) → isSome (front h) ≡ ltb (runOf notFend (drop 1 h)) (length (drop 1 h))
+unfolding front
+front-tested h = by (stretch (drop 1 h)) ∙ stretch-tested (drop 1 h)
+  where
+    by : (o : Option (List ℕ)) → isSome (Option·map enclosed o) ≡ isSome o
+    by none = refl
+    by (some s) = refl

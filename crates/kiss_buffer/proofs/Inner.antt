@@ -14,12 +14,12 @@ use Rattle.choice.specs.Pick.{pick, and}
 use Rattle.store.specs.Room.{over}
 use Rattle.kiss_escape.specs.Escape.{FEND}
 use Rattle.kiss_read.specs.Scan.{isFend, notFend, stretch, runOf}
-use Rattle.kiss_read.proofs.Scans.{run-within, stretch-found, stretch-none}
+use Rattle.kiss_read.proofs.Scans.{run-within, stretch-found}
 use Rattle.kiss_buffer.specs.Meaning.{enclosed}
 use Rattle.kiss_buffer.specs.Reader.{settle, front, isSome}
 use Rattle.kiss_buffer.specs.Calls.{standsFirst, orEmpty}
 use Rattle.kiss_buffer.specs.Inside.{settleAt}
-use Rattle.kiss_buffer.proofs.Indices.{settle-at, settle-within, front-found, front-none}
+use Rattle.kiss_buffer.proofs.Indices.{settle-at, settle-within, front-found, front-none, stretch-tested}
 
 -- a part that goes on to the end
 pub to-the-end : (i : ℕ) (h : List ℕ) → take (length h - i) (drop i h) ≡ drop i h
@@ -62,13 +62,6 @@ getD-any [] i a b h = absurd (not-suc-le-zero h)
 getD-any (x ∷ l) zero a b h = refl
 getD-any (x ∷ l) (suc i) a b h = getD-any l i a b (le-of-suc-le-suc h)
 
-stretch-some : (s : List ℕ) → isSome (stretch s) ≡ ltb (runOf notFend s) (length s)
-stretch-some s = by (ltb (runOf notFend s) (length s)) refl
-  where
-    by : (t : Bool) → ltb (runOf notFend s) (length s) ≡ t → isSome (stretch s) ≡ t
-    by true e = rw (stretch-found s (ltb-true (runOf notFend s) (length s) e))
-    by false e = rw (stretch-none s (ltb-false (runOf notFend s) (length s) e))
-
 no-second : (a : Bool) (b : Bool) → and a (and false b) ≡ false
 unfolding and
 no-second true b = refl
@@ -90,7 +83,7 @@ stands-empty h l e = rw (getD-any h 1 FEND 0 (omega arith), eq-eqb (getD h 1 0) 
 
 pub stands-closed : (h : List ℕ) → 2 ≤ length h → getD h 0 0 ≡ FEND → (getD h 1 0 ≡ FEND → ⊥) → standsFirst h ≡ ltb (runOf notFend (drop 2 h)) (length (drop 2 h))
 unfolding standsFirst and
-stands-closed h l e f = rw (eq-eqb (getD h 0 0) FEND e, getD-any h 1 FEND 0 (omega arith), ne-eqb (getD h 1 0) FEND f) (stretch-some (drop 2 h))
+stands-closed h l e f = rw (eq-eqb (getD h 0 0) FEND e, getD-any h 1 FEND 0 (omega arith), ne-eqb (getD h 1 0) FEND f) (stretch-tested (drop 2 h))
 
 -- ---- compact
 

@@ -1,5 +1,5 @@
 -- What `settle` leaves: nothing, or one FEND with no FEND behind it. Assumes nothing.
-use mathlib.Core.Path.{_≡_, refl, sym, ap}
+use mathlib.Core.Path.{_≡_, refl}
 use mathlib.Core.Bool.{Bool, true, false}
 use mathlib.Core.List.{List, [], _∷_}
 use Prim.Native.Nat.{ℕ, _≤_}
@@ -29,32 +29,39 @@ begun (b ∷ h) = by (isFend b) refl (begun h)
 
 pub data Settled : List ℕ → Type 0 where
   bare : Settled []
-  fronted : (x : List ℕ) → Settled (FEND ∷ afterFends x)
+  alone : Settled (FEND ∷ [])
+  fronted : (b : ℕ) (x : List ℕ) → isFend b ≡ false → Settled (FEND ∷ b ∷ x)
 
-pub last-settled : {g : List ℕ} → Begun g → Settled (lastFend g)
+past-fends : (x : List ℕ) → Settled (FEND ∷ afterFends x)
+unfolding afterFends pick
+past-fends [] = alone
+past-fends (b ∷ x) = by (isFend b) refl (past-fends x)
+  where
+    by : (t : Bool) → isFend b ≡ t → Settled (FEND ∷ afterFends x) → Settled (FEND ∷ pick t (afterFends x) (b ∷ x))
+    by true e ih = ih
+    by false e ih = fronted b x e
+
+last-settled : {g : List ℕ} → Begun g → Settled (lastFend g)
 last-settled none-begun = bare
-last-settled (begins x) = fronted x
+last-settled (begins x) = past-fends x
 
 pub settled : (h : List ℕ) → Settled (settle h)
 unfolding settle
 settled h = last-settled (begun h)
 
--- ---- what is settled stays
+-- ---- what is settled begins with FEND, and stays
 
-pub after-after : (x : List ℕ) → afterFends (afterFends x) ≡ afterFends x
-unfolding afterFends pick
-after-after [] = refl
-after-after (b ∷ x) = by (isFend b) refl (after-after x)
-  where
-    by : (t : Bool) → isFend b ≡ t → afterFends (afterFends x) ≡ afterFends x → afterFends (pick t (afterFends x) (b ∷ x)) ≡ pick t (afterFends x) (b ∷ x)
-    by true e ih = ih
-    by false e ih = rw e
+pub settled-begun : {g : List ℕ} → Settled g → Begun g
+settled-begun bare = none-begun
+settled-begun alone = begins []
+settled-begun (fronted b x e) = begins (b ∷ x)
 
 pub settled-stays : {g : List ℕ} → Settled g → settle g ≡ g
-unfolding settle fromFend pick
+unfolding settle fromFend afterFends pick
 settled-stays bare = refl
-settled-stays (fronted x) = rw after-after
+settled-stays alone = refl
+settled-stays (fronted b x e) = rw e
 
-pub settled-begins : {g : List ℕ} → Settled g → 1 ≤ length g → getD g 0 0 ≡ FEND
-settled-begins bare l = absurd (omega arith)
-settled-begins (fronted x) l = refl
+pub begun-begins : {g : List ℕ} → Begun g → 1 ≤ length g → getD g 0 0 ≡ FEND
+begun-begins none-begun l = absurd (omega arith)
+begun-begins (begins x) l = refl

@@ -2,4 +2,5 @@ pub mod Meaning
 pub mod Reader
 pub mod Calls
 pub mod Inside
+pub mod Examples
 pub mod Promises

@@ -1,9 +1,11 @@
 -- What is promised of the reader over any run of its calls, and demand 3, from document 01. Each is proved in proofs/Kept.antt. Assumes nothing.
 use Prim.Native.Nat.{ℕ, _≤_}
 use mathlib.Core.Bool.{Bool, true, false}
+use mathlib.Core.Logic.{_≢_}
 use mathlib.Core.Path.{_≡_}
 use mathlib.Core.List.{List, [], _∷_, _++_, map}
 use lib.ListN.{length, take, drop}
+use Rattle.choice.specs.Cases.{allPass}
 use Rattle.kiss_escape.specs.Escape.{FEND}
 use Rattle.kiss_build.specs.Build.{Building, portOf, commandOf, contentOf, frameOf}
 use Rattle.kiss_build.specs.Promises.{Accepted, ReadsAs}
@@ -12,7 +14,8 @@ use Rattle.kiss_buffer.specs.declared.WriteAnswer.the-variants.{Done}
 use Rattle.kiss_buffer.specs.declared.NextAnswer.the-variants.{Frame, Nothing}
 use Rattle.kiss_buffer.specs.Meaning.{framesOf, split, splitFrames}
 use Rattle.kiss_buffer.specs.Reader.{newReader, STORE}
-use Rattle.kiss_buffer.specs.Calls.{bufferOf, soundBuffer, written, nextFrame, frameIn}
+use Rattle.kiss_buffer.specs.Calls.{bufferOf, soundBuffer, written, nextFrame, frameIn, writeNumber, nextNumber}
+use Rattle.kiss_buffer.specs.Examples.{starred, holds}
 
 -- the reader's meaning is document 01's: split at each FEND, drop what precedes the first, keep the stretches of 1 to 1,711 bytes
 abbrev pub FramesAreTheSplit : Type 0
@@ -50,6 +53,13 @@ pub data Run : Box → List ℕ → List (List ℕ) → Type 0 where
 -- over every run from a new reader, whatever stood in its store, the frames handed out are exactly those of the input
 abbrev pub RunGivesItsFrames : Type 0
 RunGivesItsFrames = (store : List ℕ) → length store ≡ STORE → (w : List ℕ) (out : List (List ℕ)) → Run (newBox store) w out → out ≡ framesOf w
+
+-- with any answer but 0 the record and all bytes of the store are as they were, and nothing is taken
+abbrev pub RefusedKeepsAll : Type 0
+RefusedKeepsAll =
+    (x : Box) → ((offered : List ℕ) → writeNumber (written (x .buffer) offered (x .store) .0 .answer) ≢ 0
+    → (written (x .buffer) offered (x .store) .0 .count ≡ 0) × (afterWritten x offered ≡ x))
+    × (nextNumber (nextFrame (x .buffer) (x .store) .0 .answer) ≢ 0 → afterNextFrame x ≡ x)
 
 -- ---- and no run gets stuck
 
@@ -110,3 +120,8 @@ Demand3 =
     → (w : List ℕ) → Folds (earlier ++ joined (map frameOf (b ∷ bs))) w
     → (store : List ℕ) → length store ≡ STORE → (out : List (List ℕ)) → Run (newBox store) w out
     → (out ≡ framesOf (earlier ++ FEND ∷ []) ++ map frameOf (b ∷ bs)) × AllReadBack (b ∷ bs)
+
+-- ---- document 01's starred examples of the reader hold
+
+abbrev pub StarredHold : Type 0
+StarredHold = allPass holds starred ≡ true

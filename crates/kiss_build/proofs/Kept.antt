@@ -70,7 +70,7 @@ within-two n m e = by (ltb 5 n) refl e
     by false p q = (ltb-false 5 n p, within 32767 m OutOfRange q)
 
 -- the port is one of 16, and no header is a FEND: of the data builders the port is below 3, of the others the command is not 0
-header-right : (b : Building) → Accepted b → (portOf b ≤ 15) × (headerOf (portOf b) (commandOf b) ≢ FEND)
+pub header-right : (b : Building) → Accepted b → (portOf b ≤ 15) × (headerOf (portOf b) (commandOf b) ≢ FEND)
 unfolding refusal
 header-right (basicPacket payload) ok = omega arith
 header-right (fullPacket lsf packet) ok = omega arith
