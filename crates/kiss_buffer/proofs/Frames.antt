@@ -3,7 +3,7 @@ use mathlib.Core.Path.{_≡_, refl, sym, ap, _∙_}
 use mathlib.Core.Bool.{Bool, true, false}
 use mathlib.Core.Option.{Option, none, some, Option·map, map-eq-none-iff, Option·some-ne-none}
 use mathlib.Core.List.{List, [], _∷_, _++_, map, append-assoc}
-use Prim.Native.Nat.{ℕ, _≤_}
+use Prim.Native.Nat.{ℕ, _≤_, _<_}
 use native.Mathlib.Omega.{arith}
 use lib.Dec.{leb}
 use lib.ListN.{length}
@@ -18,7 +18,7 @@ use Rattle.kiss_build.specs.Build.{Building, portOf, commandOf, contentOf, fram
 use Rattle.kiss_build.specs.Promises.{Accepted}
 use Rattle.kiss_build.proofs.Frames.{frame-length}
 use Rattle.kiss_build.proofs.Kept.{header-right, built-at-most-1713}
-use Rattle.kiss_buffer.specs.Meaning.{enclosed, kept, opened, framesOf}
+use Rattle.kiss_buffer.specs.Meaning.{LONGEST, enclosed, kept, opened, framesOf}
 use Rattle.kiss_buffer.specs.Promises.{joined, Folds, ends, same, fold, AllAccepted, none-accepted, one-accepted}
 
 -- ---- the first stretch of x ++ y: x's own, or x and y's
@@ -45,13 +45,13 @@ stretch-append (b ∷ x) y = by (isFend b) (stretch x) (stretch y) (stretch-appe
 
 -- ---- which stretches are kept
 
-pub kept-is : (s : List ℕ) → 1 ≤ length s → length s ≤ 1711 → kept s ≡ enclosed s ∷ []
+pub kept-is : (s : List ℕ) → 1 ≤ length s → length s ≤ LONGEST → kept s ≡ enclosed s ∷ []
 unfolding kept pick and
-kept-is s h k = rw (le-leb 1 (length s) h, le-leb (length s) 1711 k)
+kept-is s h k = rw (le-leb 1 (length s) h, le-leb (length s) LONGEST k)
 
-pub kept-long : (s : List ℕ) → 1712 ≤ length s → kept s ≡ []
+pub kept-long : (s : List ℕ) → LONGEST < length s → kept s ≡ []
 unfolding kept pick and
-kept-long s h = rw (lt-leb (length s) 1711 h) (by (leb 1 (length s)))
+kept-long s h = rw (lt-leb (length s) LONGEST h) (by (leb 1 (length s)))
   where
     by : (t : Bool) → pick (and t false) (enclosed s ∷ []) [] ≡ []
     by true = refl
@@ -112,7 +112,7 @@ fold-frames (fold {u} f) = fend-fend u ∙ fold-frames f
 pub record Body (s : List ℕ) : Type 0 where
   pub clear : stretch s ≡ none
   pub some-byte : 1 ≤ length s
-  pub short : length s ≤ 1711
+  pub short : length s ≤ LONGEST
 
 pub body-frames : (s w : List ℕ) → Body s → framesOf (FEND ∷ (s ++ FEND ∷ w)) ≡ enclosed s ∷ framesOf (FEND ∷ w)
 unfolding framesOf pick

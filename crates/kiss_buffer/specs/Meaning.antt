@@ -13,9 +13,13 @@ use Rattle.kiss_read.specs.Scan.{isFend, stretch}
 abbrev pub enclosed : List ℕ → List ℕ
 enclosed s = FEND ∷ (s ++ FEND ∷ [])
 
+-- the longest stretch that becomes a frame
+abbrev pub LONGEST : ℕ
+LONGEST = 1711
+
 -- empty stretches vanish, 1 to 1,711 bytes become a frame, 1,712 or more vanish
 unfoldable pub kept : List ℕ → List (List ℕ)
-kept s = pick (and (leb 1 (length s)) (leb (length s) 1711)) (enclosed s ∷ []) []
+kept s = pick (and (leb 1 (length s)) (leb (length s) LONGEST)) (enclosed s ∷ []) []
 
 -- the frame that a FEND opens, from the stretch behind it: none where no FEND follows
 abbrev pub opened : Option (List ℕ) → List (List ℕ)

@@ -10,7 +10,7 @@ use mir.Val.{boolByte}
 use lib.ListN.{length}
 use lib.Seq.{length-take-le}
 use Rattle.kiss_buffer.specs.declared.NextAnswer.the-variants.{Frame, Nothing}
-use Rattle.kiss_buffer.specs.Reader.{front}
+use Rattle.kiss_buffer.specs.Reader.{STORE, front}
 use Rattle.kiss_buffer.specs.Calls.{readerOf, soundBuffer, orEmpty}
 use Rattle.kiss_buffer.proofs.Cases.{sound-filled, sound-some, next-wrong, next-unsound, next-sound, heldFrom, compacted-count, compacted-left, compacted-within, compacted-held, settle-flush, found-none, found-some}
 use Rattle.kiss_buffer.proofs.KissBuffer.next_frame.Statement.{statement}
@@ -21,7 +21,7 @@ module _ (e : tie.Else2) where
   abbrev start : tie.Start
   start = e .before .before .before .before .before
 
-  full : length (start .args .store .now) ≡ 1713
+  full : length (start .args .store .now) ≡ STORE
   full = e .before .before .before .if1 .left
 
   sound : soundBuffer (start .args .self) (start .args .store .now) ≡ true

@@ -5,6 +5,7 @@ use native.Mathlib.Omega.{arith}
 use borrow.Author.Needs.{needs}
 use borrow.Author.Tests.{not-true, not-false}
 use lib.ListN.{length}
+use Rattle.kiss_buffer.specs.Reader.{STORE}
 use Rattle.kiss_buffer.specs.Calls.{soundBuffer}
 use Rattle.kiss_buffer.proofs.Cases.{sound-filled, sound-taken, compacted-within, written-wrong, written-unsound, written-taken, written-roomy, written-full, written-afresh}
 use Rattle.kiss_buffer.proofs.KissBuffer.write.Statement.{statement}
@@ -15,7 +16,7 @@ module _ (e : tie.Else2) where
   abbrev start : tie.Start
   start = e .before .before .before .before .before .before
 
-  full : length (start .args .store .now) ≡ 1713
+  full : length (start .args .store .now) ≡ STORE
   full = e .before .before .before .if1 .left
 
   sound : soundBuffer (start .args .self) (start .args .store .now) ≡ true
