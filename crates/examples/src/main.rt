@@ -1,6 +1,8 @@
 // Runs document 01's unstarred examples and the M17 specification's CRC vectors, one to a line. The file stdout has what those documents say.
 use io::print_decimal;
 use io::print_hex;
+use kiss_buffer::KissBuffer;
+use kiss_buffer::NextAnswer;
 use libc::STDOUT_FILENO;
 use protocol::LichCollection;
 use protocol::LsfFrame;
@@ -17,6 +19,8 @@ fn main() {
     lsf_line(b"LSF of port 0: ", LsfFrame::packet_basic());
     lich_line(b"LICH index 5: ", 5);
     lich_line(b"LICH index 6: ", 6);
+    stretch_line(b"frames of a stretch of 1711 bytes: ", 1711);
+    stretch_line(b"frames of a stretch of 1712 bytes: ", 1712);
 }
 
 fn crc_line(name: &[u8], input: &[u8]) {
@@ -60,4 +64,51 @@ fn lich_line(name: &[u8], index: u8) {
     };
     print_decimal(STDOUT_FILENO, number);
     io::write_all(STDOUT_FILENO, b"\n");
+}
+
+// A reader is fed FEND, that many other bytes and FEND, one byte at a time, and asked for a frame after each.
+fn stretch_line(name: &[u8], len: usize) {
+    io::write_all(STDOUT_FILENO, name);
+    let mut store = [0u8; 1713];
+    let mut reader = fed(KissBuffer::new(), 0xC0, &mut store).buffer;
+    let mut i = 0;
+    while i < len {
+        reader = fed(reader, 0x07, &mut store).buffer;
+        i += 1;
+    }
+    let last = fed(reader, 0xC0, &mut store);
+    print_decimal(STDOUT_FILENO, last.frames);
+    io::write_all(STDOUT_FILENO, b"\n");
+}
+
+struct Answered {
+    frames: u64,
+    buffer: KissBuffer,
+}
+
+fn fed(reader: KissBuffer, byte: u8, store: &mut [u8; 1713]) -> Answered {
+    let offered = [byte];
+    let written = reader.write(&offered, store);
+    let before = written.buffer;
+    let next = before.next_frame(store);
+    let buffer = next.buffer;
+    let answer = next.answer;
+    match answer {
+        NextAnswer::Frame(_) => Answered {
+            frames: 1,
+            buffer: buffer,
+        },
+        NextAnswer::Nothing => Answered {
+            frames: 0,
+            buffer: buffer,
+        },
+        NextAnswer::WrongStore => Answered {
+            frames: 7,
+            buffer: buffer,
+        },
+        NextAnswer::OutOfBounds => Answered {
+            frames: 8,
+            buffer: buffer,
+        },
+    }
 }
