@@ -52,4 +52,22 @@ pub and-both : {a b : Bool} → a ≡ true → b ≡ true → and a b ≡ true
 unfolding and
 and-both e f = rw e f
 
+-- a test that a callee made, asked as it is and asked by `!`
+pub is-yes : {f s : Bool} → f ≡ s → f ≡ true → s ≡ true
+is-yes e h = sym e ∙ h
+
+pub is-no : {f s : Bool} → f ≡ s → f ≡ false → s ≡ false
+is-no e h = sym e ∙ h
+
+pub not-yes : {f s : Bool} → f ≡ s → not f ≡ false → s ≡ true
+not-yes {f = true} {s = s} e n = sym e
+not-yes {f = false} {s = s} e n = absurd (false≢true (sym n))
+
+pub not-no : {f s : Bool} → f ≡ s → not f ≡ true → s ≡ false
+not-no {f = true} {s = s} e n = absurd (false≢true n)
+not-no {f = false} {s = s} e n = sym e
+
 pub ruleset tests = (pick-yes, pick-no, and-no, and-go, lt-ltb, le-ltb, le-leb, lt-leb, eq-eqb, ne-eqb)
+
+-- the same, where a callee made a test
+pub ruleset callees = (tests, is-yes, is-no, not-yes, not-no)
