@@ -1,4 +1,6 @@
 // Runs document 01's unstarred examples and the M17 specification's CRC vectors, one to a line. The file stdout has what those documents say.
+use channel::AccessAnswer;
+use channel::Channel;
 use io::print_decimal;
 use io::print_hex;
 use kiss_buffer::KissBuffer;
@@ -21,6 +23,10 @@ fn main() {
     lich_line(b"LICH index 6: ", 6);
     stretch_line(b"frames of a stretch of 1711 bytes: ", 1711);
     stretch_line(b"frames of a stretch of 1712 bytes: ", 1712);
+    channel_line(b"busy at 1000: ", waiting_until(1000, true, false, 0));
+    channel_line(b"clear at 2920, when a check is due: ", waiting_until(2920, false, true, 2920));
+    channel_line(b"clear at 4843, when a check is due: ", waiting_until(4843, false, true, 4840));
+    channel_line(b"busy at 4843, when a check is due: ", waiting_until(4843, true, true, 4840));
 }
 
 fn crc_line(name: &[u8], input: &[u8]) {
@@ -111,4 +117,33 @@ fn fed(reader: KissBuffer, byte: u8, store: &mut [u8; 1713]) -> Answered {
             buffer: buffer,
         },
     }
+}
+
+fn waiting_until(clock: u64, carrier: bool, waits: bool, check: u64) -> Channel {
+    Channel {
+        clock: clock,
+        carrier: carrier,
+        waits: waits,
+        check: check,
+        duplex: false,
+    }
+}
+
+fn channel_line(name: &[u8], before: Channel) {
+    io::write_all(STDOUT_FILENO, name);
+    let after = before.access();
+    let answer = after.answer;
+    match answer {
+        AccessAnswer::Sends => {
+            io::write_all(STDOUT_FILENO, b"sends");
+        }
+        AccessAnswer::Waits => {
+            io::write_all(STDOUT_FILENO, b"checks at ");
+            print_decimal(STDOUT_FILENO, after.channel.check);
+        }
+        AccessAnswer::OutOfBounds => {
+            io::write_all(STDOUT_FILENO, b"8");
+        }
+    }
+    io::write_all(STDOUT_FILENO, b"\n");
 }
