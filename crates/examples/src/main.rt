@@ -24,9 +24,18 @@ fn main() {
     stretch_line(b"frames of a stretch of 1711 bytes: ", 1711);
     stretch_line(b"frames of a stretch of 1712 bytes: ", 1712);
     channel_line(b"busy at 1000: ", waiting_until(1000, true, false, 0));
-    channel_line(b"clear at 2920, when a check is due: ", waiting_until(2920, false, true, 2920));
-    channel_line(b"clear at 4843, when a check is due: ", waiting_until(4843, false, true, 4840));
-    channel_line(b"busy at 4843, when a check is due: ", waiting_until(4843, true, true, 4840));
+    channel_line(
+        b"clear at 2920, when a check is due: ",
+        waiting_until(2920, false, true, 2920),
+    );
+    channel_line(
+        b"clear at 4843, when a check is due: ",
+        waiting_until(4843, false, true, 4840),
+    );
+    channel_line(
+        b"busy at 4843, when a check is due: ",
+        waiting_until(4843, true, true, 4840),
+    );
 }
 
 fn crc_line(name: &[u8], input: &[u8]) {
