@@ -1,0 +1,95 @@
+// What the TNC is doing, with the names of m17core's tnc.rs, and how the clock ends a transmission.
+ghost use mathlib.Core.Path.{_≡_};
+ghost use Rattle.state.specs.State.{transmits, soundState, timeReached, endingAt};
+
+// The bytes that go with a reception stand in a store of the caller's: the LSF, or its LICH segments, and the packet.
+pub enum State {
+    Idle,
+    // Segments of an LSF are collected: the mask of those that have been heard.
+    RxAcquiringStream(u8),
+    // The number of the stream frame that is expected next.
+    RxStream(u16),
+    // How many frames of a packet have come.
+    RxPacket(usize),
+    TxStream,
+    TxStreamSentEndOfStream,
+    TxPacket,
+    TxEnding,
+    // The clock's time at which the transmission is over.
+    TxEndingAtTime(u64),
+}
+
+impl State {
+    // Is PTT on?
+    pub fn ptt(self) -> bool
+        ensures { λ r. ⌜ r ≡ transmits self ⌝ }
+    {
+        match self {
+            State::Idle => false,
+            State::RxAcquiringStream(_) => false,
+            State::RxStream(_) => false,
+            State::RxPacket(_) => false,
+            State::TxStream => true,
+            State::TxStreamSentEndOfStream => true,
+            State::TxPacket => true,
+            State::TxEnding => true,
+            State::TxEndingAtTime(_) => true,
+        }
+    }
+
+    pub fn is_sound(self) -> bool
+        ensures { λ r. ⌜ r ≡ soundState self ⌝ }
+    {
+        match self {
+            State::Idle => true,
+            State::RxAcquiringStream(mask) => mask < 64,
+            State::RxStream(_) => true,
+            State::RxPacket(count) => count <= 32,
+            State::TxStream => true,
+            State::TxStreamSentEndOfStream => true,
+            State::TxPacket => true,
+            State::TxEnding => true,
+            State::TxEndingAtTime(end) => end <= 4611686022722355200,
+        }
+    }
+
+    // The state once the clock shows now: a transmission whose end has come is over.
+    pub fn at_time(self, now_samples: u64) -> Self
+        ensures { λ r. ⌜ r ≡ timeReached self «now_samples» ⌝ }
+    {
+        match self {
+            State::Idle => self,
+            State::RxAcquiringStream(_) => self,
+            State::RxStream(_) => self,
+            State::RxPacket(_) => self,
+            State::TxStream => self,
+            State::TxStreamSentEndOfStream => self,
+            State::TxPacket => self,
+            State::TxEnding => self,
+            State::TxEndingAtTime(end) => {
+                if end <= now_samples {
+                    State::Idle
+                } else {
+                    self
+                }
+            }
+        }
+    }
+
+    // The state once the modulator has said when it will be done, which counts only where an end was given and no time yet.
+    pub fn ending_at(self, end: u64) -> Self
+        ensures { λ r. ⌜ r ≡ endingAt self end ⌝ }
+    {
+        match self {
+            State::Idle => self,
+            State::RxAcquiringStream(_) => self,
+            State::RxStream(_) => self,
+            State::RxPacket(_) => self,
+            State::TxStream => self,
+            State::TxStreamSentEndOfStream => self,
+            State::TxPacket => self,
+            State::TxEnding => State::TxEndingAtTime(end),
+            State::TxEndingAtTime(_) => self,
+        }
+    }
+}
