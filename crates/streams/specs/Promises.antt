@@ -1,0 +1,1 @@
+-- What is promised of the stream queue over several calls, from document 01. Each is proved in proofs/Kept.antt. Assumes nothing.
