@@ -6,7 +6,7 @@ use Prim.Native.Nat.{ℕ, _≤_, _<_}
 use native.Mathlib.Omega.{arith}
 use lib.ListN.{length}
 use borrow.Author.Tests.{eq-eqb, ne-eqb, le-leb, lt-leb, ltb-true}
-use Rattle.choice.specs.Pick.{pick, and, and-fst, and-snd}
+use Rattle.choice.specs.Pick.{pick, and-fst, and-snd}
 use Rattle.store.specs.Room.{placed}
 use Rattle.crc.specs.Crc.{crcOf}
 use Rattle.kiss_read.specs.declared.Decoded.{Decoded}

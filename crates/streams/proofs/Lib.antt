@@ -1,2 +1,5 @@
 pub mod Stored
 pub mod Cases
+pub mod Outcomes
+pub mod Ring
+pub mod Kept

@@ -2,7 +2,7 @@
 -- byte first). What the payload of a port 2 data frame stands for is `streamOf` of crate kiss_build. Assumes nothing.
 use Prim.Native.Nat.{ℕ, _+_, _*_}
 use mathlib.Core.Bool.{Bool, true, false, not}
-use mathlib.Core.List.{List, [], _∷_, _++_}
+use mathlib.Core.List.{List, _∷_, _++_}
 use lib.Dec.{eqb}
 use lib.ListN.{getD}
 use Rattle.crc.specs.Crc.{twoBytes}
