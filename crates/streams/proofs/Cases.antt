@@ -13,7 +13,7 @@ use Rattle.kiss_read.specs.declared.Decoded.{Decoded}
 use Rattle.streams.specs.declared.StreamQueue.{StreamQueue}
 use Rattle.streams.specs.declared.StreamAnswer.the-variants.{LsfPending, Ignored, WrongStore, OutOfBounds}
 use Rattle.streams.specs.declared.StreamReadAnswer.the-variants.{Nothing, WrongStore as NoStore, OutOfBounds as NoState}
-use Rattle.streams.specs.Queue.{PLACES, LSF, STORE, soundQueue, emptyQueue, withPending, notPushed, dataPushed, lsfPushed, payloadPushed, decodedPushed, decodedOf, pushed, notRead, lsfRead, frameRead, nextRead, readNext}
+use Rattle.streams.specs.Queue.{PLACES, LSF, STORE, IGNORED, DATA, soundQueue, emptyQueue, withPending, notPushed, dataPushed, lsfPushed, payloadPushed, decodedPushed, decodedOf, pushed, notRead, lsfRead, frameRead, nextRead, readNext}
 
 -- ---- what a sound queue says
 
@@ -55,17 +55,17 @@ module _ (q : StreamQueue) (payload store : List ℕ) where
   lsf-right e z = rw (eq-eqb (crcOf payload) 0 (sym e ∙ z))
 
 module _ (n : ℕ) (q : StreamQueue) (payload store : List ℕ) where
-  pub payload-short : n ≤ 25 → notPushed Ignored q store ≡ payloadPushed n q payload store
+  pub payload-short : n ≤ IGNORED → notPushed Ignored q store ≡ payloadPushed n q payload store
   unfolding payloadPushed pick
-  payload-short h = rw (le-leb n 25 h)
+  payload-short h = rw (le-leb n IGNORED h)
 
-  pub payload-data : 25 < n → n ≤ 29 → dataPushed q payload store ≡ payloadPushed n q payload store
+  pub payload-data : IGNORED < n → n ≤ DATA → dataPushed q payload store ≡ payloadPushed n q payload store
   unfolding payloadPushed pick
-  payload-data h k = rw (lt-leb n 25 h, le-leb n 29 k)
+  payload-data h k = rw (lt-leb n IGNORED h, le-leb n DATA k)
 
-  pub payload-lsf : 29 < n → lsfPushed q payload store ≡ payloadPushed n q payload store
+  pub payload-lsf : DATA < n → lsfPushed q payload store ≡ payloadPushed n q payload store
   unfolding payloadPushed pick
-  payload-lsf h = rw (lt-leb n 25 (omega arith), lt-leb n 29 h)
+  payload-lsf h = rw (lt-leb n IGNORED (omega arith), lt-leb n DATA h)
 
 -- ---- read_next
 

@@ -22,7 +22,7 @@ use Rattle.streams.specs.declared.StreamReadAnswer.{StreamReadAnswer}
 use Rattle.streams.specs.declared.StreamReadAnswer.the-variants.{Nothing, Lsf, Frame, WrongStore as NoStore, OutOfBounds as NoState}
 use Rattle.streams.specs.declared.StreamRead.{StreamRead}
 use Rattle.streams.specs.Layout.{FRAME, bytesOf, frameOf}
-use Rattle.streams.specs.Queue.{LSF, soundQueue, emptyQueue, frameAt, queued, unqueued, notPushed, dataPushed, lsfPushed, payloadPushed, decodedOf, pushed, noFrame, lsfRead, frameRead, pushNumber, readNumber}
+use Rattle.streams.specs.Queue.{LSF, IGNORED, DATA, soundQueue, emptyQueue, frameAt, queued, unqueued, notPushed, dataPushed, lsfPushed, payloadPushed, decodedOf, pushed, noFrame, lsfRead, frameRead, pushNumber, readNumber}
 use Rattle.streams.specs.Promises.{Box, pushAnswer, afterPush, nextOf, afterRead, RefusedKeepsAll, IgnoredKeepsAll, Sound, NewIsSound, SoundStaysSound, frameIn, StoredIsRead, count, framesFrom, waiting, addedBy, givenBy, Run, over, push, read, FirstInFirstOut, lsfWaiting, LsfWaitsUntilRead, FullStopsDataNotLsf}
 use Rattle.streams.proofs.Stored.{bytes-length, frame-of, payload-five, payload-sixteen}
 use Rattle.streams.proofs.Cases.{next-below, curr-below, pushed-decoded, lsf-right, payload-lsf, read-frame}
@@ -266,9 +266,9 @@ unfolding dataPushed payloadPushed pick
 full-stops-data-not-lsf x s f frame n e =
     let q = x .queue in let d = x .store in let p = decodedOf frame .1 in
     let r = pushed-decoded q frame d (s .its-store) (s .its-state) p refl (Payload n) e in
-    (λ h. ap (λ (r : StreamPushed × List ℕ). r .0 .answer) (sym r) ∙ stopped h (leb n 25), λ h c. ap (λ (r : StreamPushed × List ℕ). r .0 .answer) (sym (lsf-right q p d refl c ∙ payload-lsf n q p d (omega arith) ∙ r)))
+    (λ h. ap (λ (r : StreamPushed × List ℕ). r .0 .answer) (sym r) ∙ stopped h (leb n IGNORED), λ h c. ap (λ (r : StreamPushed × List ℕ). r .0 .answer) (sym (lsf-right q p d refl c ∙ payload-lsf n q p d (omega arith) ∙ r)))
   where
-    stopped : n ≤ 29 → (t : Bool)
-        → pick t (notPushed Ignored (x .queue) (x .store)) (pick (leb n 29) (dataPushed (x .queue) (decodedOf frame .1) (x .store)) (lsfPushed (x .queue) (decodedOf frame .1) (x .store))) .0 .answer ≡ Ignored
+    stopped : n ≤ DATA → (t : Bool)
+        → pick t (notPushed Ignored (x .queue) (x .store)) (pick (leb n DATA) (dataPushed (x .queue) (decodedOf frame .1) (x .store)) (lsfPushed (x .queue) (decodedOf frame .1) (x .store))) .0 .answer ≡ Ignored
     stopped h true = refl
-    stopped h false = rw (le-leb n 29 h, f)
+    stopped h false = rw (le-leb n DATA h, f)

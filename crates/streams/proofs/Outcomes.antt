@@ -24,7 +24,7 @@ use Rattle.streams.specs.declared.StreamReadAnswer.{StreamReadAnswer}
 use Rattle.streams.specs.declared.StreamReadAnswer.the-variants.{Nothing, Lsf, Frame, WrongStore as NoStore, OutOfBounds as NoState}
 use Rattle.streams.specs.declared.StreamRead.{StreamRead}
 use Rattle.streams.specs.Layout.{FRAME, bytesOf}
-use Rattle.streams.specs.Queue.{LSF, STORE, soundQueue, emptyQueue, queued, withPending, notPushed, dataPushed, lsfPushed, payloadPushed, decodedPushed, decodedOf, pushed, notRead, lsfRead, frameRead, nextRead, readNext}
+use Rattle.streams.specs.Queue.{LSF, STORE, IGNORED, DATA, soundQueue, emptyQueue, queued, withPending, notPushed, dataPushed, lsfPushed, payloadPushed, decodedPushed, decodedOf, pushed, notRead, lsfRead, frameRead, nextRead, readNext}
 
 -- ---- the room that a frame is decoded into keeps its length
 
@@ -103,7 +103,7 @@ push-outcome q frame store = tested (eqb (length store) STORE) refl
 
     answered : length store ≡ STORE → soundQueue q ≡ true → (d : Decoded) → Push q p store (decodedPushed d q p store)
     answered l s NoPayload = kept malformed
-    answered l s (Payload n) = counted l s (leb n 25) (leb n 29)
+    answered l s (Payload n) = counted l s (leb n IGNORED) (leb n DATA)
 
     bounded : length store ≡ STORE → (t : Bool) → soundQueue q ≡ t → Push q p store (pick t (decodedPushed (decodedOf frame .0) q p store) (notPushed OutOfBounds q store))
     bounded l true s = answered l s (decodedOf frame .0)

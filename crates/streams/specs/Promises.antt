@@ -1,5 +1,5 @@
 -- What is promised of the stream queue over several calls, from document 01. Each is proved in proofs/Kept.antt. Assumes nothing.
-use Prim.Native.Nat.{ℕ, zero, suc, _+_, _-_, _%_, _≤_}
+use Prim.Native.Nat.{ℕ, zero, suc, _+_, _-_, _%_, _≤_, _<_}
 use mathlib.Core.Bool.{true, false}
 use mathlib.Core.Logic.{_≢_}
 use mathlib.Core.Option.{Option, none, some}
@@ -18,7 +18,7 @@ use Rattle.streams.specs.declared.StreamAnswer.the-variants.{Queued, Lsf
 use Rattle.streams.specs.declared.StreamReadAnswer.{StreamReadAnswer}
 use Rattle.streams.specs.declared.StreamReadAnswer.the-variants.{Nothing, Lsf, Frame, WrongStore as NoStore, OutOfBounds as NoState}
 use Rattle.streams.specs.declared.StreamRead.{StreamRead}
-use Rattle.streams.specs.Queue.{PLACES, LSF, STORE, newQueue, soundQueue, emptyQueue, frameAt, after, decodedOf, pushed, readNext, pushNumber, readNumber}
+use Rattle.streams.specs.Queue.{PLACES, LSF, STORE, DATA, newQueue, soundQueue, emptyQueue, frameAt, after, decodedOf, pushed, readNext, pushNumber, readNumber}
 
 -- a record and its store, as the last call left them
 pub record Box : Type 0 where
@@ -132,4 +132,4 @@ LsfWaitsUntilRead =
 abbrev pub FullStopsDataNotLsf : Type 0
 FullStopsDataNotLsf =
     (x : Box) → Sound x → x .queue .full ≡ true → (frame : List ℕ) (n : ℕ) → decodedOf frame .0 ≡ Payload n
-    → (n ≤ 29 → pushAnswer x frame ≡ Ignored) × (n ≡ 30 → crcOf (decodedOf frame .1) ≡ 0 → pushAnswer x frame ≡ LsfPending)
+    → (n ≤ DATA → pushAnswer x frame ≡ Ignored) × (DATA < n → crcOf (decodedOf frame .1) ≡ 0 → pushAnswer x frame ≡ LsfPending)

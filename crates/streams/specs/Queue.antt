@@ -81,8 +81,14 @@ lsfPushed q payload store =
     pick (eqb (crcOf payload) 0) (record { answer = LsfPending; queue = withPending true q }, placed payload store LSF) (notPushed Ignored q store)
 
 -- a payload of 0 to 25 bytes is ignored, 26 to 29 is data, 30 is an LSF
+abbrev pub IGNORED : ℕ
+IGNORED = 25
+
+abbrev pub DATA : ℕ
+DATA = 29
+
 unfoldable pub payloadPushed : ℕ → StreamQueue → List ℕ → List ℕ → StreamPushed × List ℕ
-payloadPushed n q payload store = pick (leb n 25) (notPushed Ignored q store) (pick (leb n 29) (dataPushed q payload store) (lsfPushed q payload store))
+payloadPushed n q payload store = pick (leb n IGNORED) (notPushed Ignored q store) (pick (leb n DATA) (dataPushed q payload store) (lsfPushed q payload store))
 
 abbrev pub decodedPushed : Decoded → StreamQueue → List ℕ → List ℕ → StreamPushed × List ℕ
 decodedPushed NoPayload q payload store = notPushed MalformedKissFrame q store
