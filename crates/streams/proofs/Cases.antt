@@ -2,7 +2,7 @@
 use mathlib.Core.Path.{_≡_, sym, ap, _∙_}
 use mathlib.Core.Bool.{true, false}
 use mathlib.Core.List.{List}
-use Prim.Native.Nat.{ℕ, _≤_, _<_}
+use Prim.Native.Nat.{ℕ, _*_, _≤_, _<_}
 use native.Mathlib.Omega.{arith}
 use lib.ListN.{length}
 use borrow.Author.Tests.{eq-eqb, ne-eqb, le-leb, lt-leb, ltb-true}
@@ -10,10 +10,12 @@ use Rattle.choice.specs.Pick.{pick, and-fst, and-snd}
 use Rattle.store.specs.Room.{placed}
 use Rattle.crc.specs.Crc.{crcOf}
 use Rattle.kiss_read.specs.declared.Decoded.{Decoded}
+use Rattle.kiss_build.specs.Stream.{streamOf}
 use Rattle.streams.specs.declared.StreamQueue.{StreamQueue}
-use Rattle.streams.specs.declared.StreamAnswer.the-variants.{LsfPending, Ignored, WrongStore, OutOfBounds}
+use Rattle.streams.specs.declared.StreamAnswer.the-variants.{Queued, LsfPending, Ignored, WrongStore, OutOfBounds}
 use Rattle.streams.specs.declared.StreamReadAnswer.the-variants.{Nothing, WrongStore as NoStore, OutOfBounds as NoState}
-use Rattle.streams.specs.Queue.{PLACES, LSF, STORE, IGNORED, DATA, soundQueue, emptyQueue, withPending, notPushed, dataPushed, lsfPushed, payloadPushed, decodedPushed, decodedOf, pushed, notRead, lsfRead, frameRead, nextRead, readNext}
+use Rattle.streams.specs.Layout.{FRAME, bytesOf}
+use Rattle.streams.specs.Queue.{PLACES, LSF, STORE, IGNORED, DATA, soundQueue, emptyQueue, queued, withPending, notPushed, dataPushed, lsfPushed, payloadPushed, decodedPushed, decodedOf, pushed, notRead, lsfRead, frameRead, nextRead, readNext}
 
 -- ---- what a sound queue says
 
@@ -46,6 +48,14 @@ module _ (q : StreamQueue) (frame store : List ℕ) where
       ∙ rw (eq-eqb (length store) STORE l, e)
 
 module _ (q : StreamQueue) (payload store : List ℕ) where
+  pub data-full : q .full ≡ true → notPushed Ignored q store ≡ dataPushed q payload store
+  unfolding dataPushed pick
+  data-full t = rw t
+
+  pub data-roomy : q .full ≡ false → (record { answer = Queued; queue = queued q }, placed (bytesOf (streamOf payload)) store (FRAME * q .next)) ≡ dataPushed q payload store
+  unfolding dataPushed pick
+  data-roomy t = rw t
+
   pub lsf-wrong : {n : ℕ} → n ≡ crcOf payload → (n ≡ 0 → ⊥) → notPushed Ignored q store ≡ lsfPushed q payload store
   unfolding lsfPushed pick
   lsf-wrong e f = rw (ne-eqb (crcOf payload) 0 (λ z. f (e ∙ z)))

@@ -1,5 +1,5 @@
 -- The promises of specs/Promises.antt are kept. Assumes nothing.
-use Prim.Native.Nat.{ℕ, _+_, _*_, _≤_}
+use Prim.Native.Nat.{ℕ, _+_, _*_, _≤_, _<_}
 use mathlib.Core.Bool.{Bool, true, false}
 use mathlib.Core.Logic.{_≢_}
 use mathlib.Core.Option.{none, some}
@@ -8,12 +8,15 @@ use mathlib.Core.List.{List, [], _∷_, _++_, append-nil, append-assoc}
 use native.Mathlib.Omega.{arith}
 use lib.Dec.{leb}
 use lib.ListN.{length}
-use borrow.Author.Tests.{le-leb}
+use borrow.Author.Tests.{leb-true, leb-false}
 use Rattle.choice.specs.Pick.{pick, and}
 use Rattle.store.specs.Room.{placed}
 use Rattle.store.proofs.Places.{placed-length}
 use Rattle.protocol.specs.declared.StreamFrame.{StreamFrame}
+use Rattle.crc.specs.Crc.{crcOf}
+use Rattle.kiss_read.specs.declared.Decoded.{Decoded}
 use Rattle.kiss_read.specs.declared.Decoded.the-variants.{Payload}
+use Rattle.kiss_build.specs.Build.{streamSetup, streamData, frameOf as builtFrame}
 use Rattle.streams.specs.declared.StreamQueue.{StreamQueue}
 use Rattle.streams.specs.declared.StreamAnswer.{StreamAnswer}
 use Rattle.streams.specs.declared.StreamAnswer.the-variants.{Queued, LsfPending, Ignored, MalformedKissFrame, WrongStore, OutOfBounds}
@@ -22,11 +25,12 @@ use Rattle.streams.specs.declared.StreamReadAnswer.{StreamReadAnswer}
 use Rattle.streams.specs.declared.StreamReadAnswer.the-variants.{Nothing, Lsf, Frame, WrongStore as NoStore, OutOfBounds as NoState}
 use Rattle.streams.specs.declared.StreamRead.{StreamRead}
 use Rattle.streams.specs.Layout.{FRAME, bytesOf, frameOf}
-use Rattle.streams.specs.Queue.{LSF, IGNORED, DATA, soundQueue, emptyQueue, frameAt, queued, unqueued, notPushed, dataPushed, lsfPushed, payloadPushed, decodedOf, pushed, noFrame, lsfRead, frameRead, pushNumber, readNumber}
-use Rattle.streams.specs.Promises.{Box, pushAnswer, afterPush, nextOf, afterRead, RefusedKeepsAll, IgnoredKeepsAll, Sound, NewIsSound, SoundStaysSound, frameIn, StoredIsRead, count, framesFrom, waiting, addedBy, givenBy, Run, over, push, read, FirstInFirstOut, lsfWaiting, LsfWaitsUntilRead, FullStopsDataNotLsf}
+use Rattle.streams.specs.Queue.{LSF, IGNORED, DATA, soundQueue, emptyQueue, frameAt, queued, unqueued, dataPushed, payloadPushed, decodedOf, pushed, noFrame, lsfRead, frameRead, pushNumber, readNumber}
+use Rattle.streams.specs.Promises.{Box, pushAnswer, afterPush, nextOf, afterRead, RefusedKeepsAll, IgnoredKeepsAll, Sound, NewIsSound, SoundStaysSound, frameIn, StoredIsRead, count, framesFrom, waiting, addedBy, givenBy, Run, over, push, read, FirstInFirstOut, lsfWaiting, LsfWaitsUntilRead, FullStopsDataNotLsf, BuiltIsTaken}
 use Rattle.streams.proofs.Stored.{bytes-length, frame-of, payload-five, payload-sixteen}
-use Rattle.streams.proofs.Cases.{next-below, curr-below, pushed-decoded, lsf-right, payload-lsf, read-frame}
+use Rattle.streams.proofs.Cases.{next-below, curr-below, pushed-decoded, data-full, data-roomy, lsf-right, payload-short, payload-data, payload-lsf, read-frame}
 use Rattle.streams.proofs.Outcomes.{payload-thirty, tag, quiet-tag, readTag, silent-tag, Quiet, ignored, malformed, wrong-store, out-of-bounds, Push, kept, data-queued, lsf-taken, push-outcome, Silent, nothing, no-store, no-state, Read, silent, lsf-given, frame-given, read-outcome}
+use Rattle.streams.proofs.Builders.{data-count, data-frame, lsf-decoded}
 use Rattle.streams.proofs.Ring.{pending-sound, queued-sound, unqueued-sound, count-small, count-reaches, count-queued, count-unqueued, frames-same, frames-more, placed-here, placed-apart, placed-lsf, lsf-there, lsf-apart, empty-equal, queued-waits}
 
 -- what a frame of the host is stored as
@@ -261,14 +265,33 @@ module _ (x : Box) where
 pub lsf-waits-until-read : LsfWaitsUntilRead
 lsf-waits-until-read x s = (lsf-comes x, lsf-stays x, lsf-goes x, lsf-left x)
 
+-- past the tests, the answer to a frame that decodes to n bytes
+module _ (x : Box) (s : Sound x) (frame : List ℕ) {n : ℕ} (e : decodedOf frame .0 ≡ Payload n) where
+  answer-by : {r : StreamPushed × List ℕ} → r ≡ payloadPushed n (x .queue) (decodedOf frame .1) (x .store) → pushAnswer x frame ≡ r .0 .answer
+  answer-by c =
+      ap (λ (r : StreamPushed × List ℕ). r .0 .answer) (sym (c ∙ pushed-decoded (x .queue) frame (x .store) (s .its-store) (s .its-state) (decodedOf frame .1) refl (Payload n) e))
+
+  answer-data : IGNORED < n → n ≤ DATA → {r : StreamPushed × List ℕ} → r ≡ dataPushed (x .queue) (decodedOf frame .1) (x .store) → pushAnswer x frame ≡ r .0 .answer
+  answer-data h k c = answer-by (c ∙ payload-data n (x .queue) (decodedOf frame .1) (x .store) h k)
+
+  answer-lsf : DATA < n → crcOf (decodedOf frame .1) ≡ 0 → pushAnswer x frame ≡ LsfPending
+  answer-lsf h c = answer-by (lsf-right (x .queue) (decodedOf frame .1) (x .store) refl c ∙ payload-lsf n (x .queue) (decodedOf frame .1) (x .store) h)
+
 pub full-stops-data-not-lsf : FullStopsDataNotLsf
-unfolding dataPushed payloadPushed pick
-full-stops-data-not-lsf x s f frame n e =
-    let q = x .queue in let d = x .store in let p = decodedOf frame .1 in
-    let r = pushed-decoded q frame d (s .its-store) (s .its-state) p refl (Payload n) e in
-    (λ h. ap (λ (r : StreamPushed × List ℕ). r .0 .answer) (sym r) ∙ stopped h (leb n IGNORED), λ h c. ap (λ (r : StreamPushed × List ℕ). r .0 .answer) (sym (lsf-right q p d refl c ∙ payload-lsf n q p d (omega arith) ∙ r)))
+full-stops-data-not-lsf x s f frame n e = (λ h. by h (leb n IGNORED) refl, answer-lsf x s frame e)
   where
-    stopped : n ≤ DATA → (t : Bool)
-        → pick t (notPushed Ignored (x .queue) (x .store)) (pick (leb n DATA) (dataPushed (x .queue) (decodedOf frame .1) (x .store)) (lsfPushed (x .queue) (decodedOf frame .1) (x .store))) .0 .answer ≡ Ignored
-    stopped h true = refl
-    stopped h false = rw (le-leb n DATA h, f)
+    by : n ≤ DATA → (t : Bool) → leb n IGNORED ≡ t → pushAnswer x frame ≡ Ignored
+    by h true k = answer-by x s frame e (payload-short n (x .queue) (decodedOf frame .1) (x .store) (leb-true n IGNORED k))
+    by h false k = answer-data x s frame e (leb-false n IGNORED k) h (data-full (x .queue) (decodedOf frame .1) (x .store) f)
+
+-- ---- what a builder wrote
+
+pub built-is-taken : BuiltIsTaken
+built-is-taken x s = (
+  λ f ok room.
+      let b = builtFrame (streamData f) in
+      (answer-data x s b (data-count f ok) (omega arith) (omega arith) (data-roomy (x .queue) (decodedOf b .1) (x .store) room), data-frame f ok),
+  λ lsf l c.
+      let b = builtFrame (streamSetup lsf) in let d = lsf-decoded lsf l in
+      (answer-lsf x s b (ap (λ (r : Decoded × List ℕ). r .0) d) (omega arith) (ap (λ (r : Decoded × List ℕ). crcOf (r .1)) d ∙ c), ap (λ (r : Decoded × List ℕ). r .1) d),
+)

@@ -12,6 +12,8 @@ use Rattle.protocol.specs.declared.StreamFrame.{StreamFrame}
 use Rattle.protocol.specs.Lsf.{part}
 use Rattle.kiss_read.specs.declared.Decoded.the-variants.{Payload}
 use Rattle.kiss_build.specs.Stream.{streamOf}
+use Rattle.kiss_build.specs.Build.{streamSetup, streamData, frameOf as builtFrame}
+use Rattle.kiss_build.specs.Promises.{Accepted}
 use Rattle.streams.specs.declared.StreamQueue.{StreamQueue}
 use Rattle.streams.specs.declared.StreamAnswer.{StreamAnswer}
 use Rattle.streams.specs.declared.StreamAnswer.the-variants.{Queued, LsfPending, Ignored, MalformedKissFrame, WrongStore, OutOfBounds}
@@ -133,3 +135,14 @@ abbrev pub FullStopsDataNotLsf : Type 0
 FullStopsDataNotLsf =
     (x : Box) → Sound x → x .queue .full ≡ true → (frame : List ℕ) (n : ℕ) → decodedOf frame .0 ≡ Payload n
     → (n ≤ DATA → pushAnswer x frame ≡ Ignored) × (DATA < n → crcOf (decodedOf frame .1) ≡ 0 → pushAnswer x frame ≡ LsfPending)
+
+-- ---- what a builder wrote
+
+-- a stream frame that a builder wrote from accepted arguments is queued as that very frame, where there is room; an LSF of 30 bytes whose CRC is 0 waits as that very LSF
+abbrev pub BuiltIsTaken : Type 0
+BuiltIsTaken =
+    (x : Box) → Sound x
+    → ((f : StreamFrame) → Accepted (streamData f) → x .queue .full ≡ false
+    → (pushAnswer x (builtFrame (streamData f)) ≡ Queued) × (frameIn (builtFrame (streamData f)) ≡ f))
+    × ((lsf : List ℕ) → length lsf ≡ 30 → crcOf lsf ≡ 0
+    → (pushAnswer x (builtFrame (streamSetup lsf)) ≡ LsfPending) × (decodedOf (builtFrame (streamSetup lsf)) .1 ≡ lsf))
