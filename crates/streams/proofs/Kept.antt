@@ -153,23 +153,23 @@ module _ (x : Box) where
 
 -- ---- refusals, and frames that are ignored
 
-loud : (a : StreamAnswer) → pushNumber a ≢ 0 → 2 ≤ tag a
-loud Queued f = absurd (f refl)
-loud LsfPending f = absurd (f refl)
-loud Ignored f = omega arith
-loud MalformedKissFrame f = omega arith
-loud WrongStore f = omega arith
-loud OutOfBounds f = omega arith
+refused-quiet : (a : StreamAnswer) → pushNumber a ≢ 0 → 2 ≤ tag a
+refused-quiet Queued f = absurd (f refl)
+refused-quiet LsfPending f = absurd (f refl)
+refused-quiet Ignored f = omega arith
+refused-quiet MalformedKissFrame f = omega arith
+refused-quiet WrongStore f = omega arith
+refused-quiet OutOfBounds f = omega arith
 
-loud-read : (a : StreamReadAnswer) → readNumber a ≢ 0 → 2 ≤ readTag a
-loud-read Nothing f = omega arith
-loud-read Lsf f = absurd (f refl)
-loud-read Frame f = absurd (f refl)
-loud-read NoStore f = omega arith
-loud-read NoState f = omega arith
+refused-silent : (a : StreamReadAnswer) → readNumber a ≢ 0 → 2 ≤ readTag a
+refused-silent Nothing f = omega arith
+refused-silent Lsf f = absurd (f refl)
+refused-silent Frame f = absurd (f refl)
+refused-silent NoStore f = omega arith
+refused-silent NoState f = omega arith
 
 pub refused-keeps-all : RefusedKeepsAll
-refused-keeps-all x = (λ frame f. push-keeps x frame (loud (pushAnswer x frame) f), λ f. read-keeps x (loud-read (nextOf x .answer) f))
+refused-keeps-all x = (λ frame f. push-keeps x frame (refused-quiet (pushAnswer x frame) f), λ f. read-keeps x (refused-silent (nextOf x .answer) f))
 
 pub ignored-keeps-all : IgnoredKeepsAll
 ignored-keeps-all x = (λ frame e. push-keeps x frame (omega (arith, ap tag e)), λ e. read-keeps x (omega (arith, ap readTag e)))

@@ -97,7 +97,7 @@ impl StreamQueue {
         self.next == self.curr
     }
 
-    // Takes the payload of a port 2 data frame: data, or an LSF.
+    // Takes the payload of a port 2 data frame: data, which is queued, or an LSF, which waits in place of one that waited before.
     pub fn push(self, frame: &[u8], store: &mut [u8]) -> StreamPushed
         ensures { λ r. ⌜ (r, now (store .exit)) ≡ pushed self (now (frame .entry)) (now (store .entry)) ⌝ }
     {
@@ -108,12 +108,13 @@ impl StreamQueue {
             return unchanged(StreamAnswer::OutOfBounds, self);
         }
         let mut payload = [0u8; 30];
-        let len = decode_payload(frame, &mut payload);
-        match len {
+        let decoded = decode_payload(frame, &mut payload);
+        match decoded {
             Decoded::MalformedKissFrame => unchanged(StreamAnswer::MalformedKissFrame, self),
             Decoded::Payload(n) => match n {
                 0..=25 => unchanged(StreamAnswer::Ignored, self),
                 26..=29 => self.push_data(payload, store),
+                // 30: the room has no more, and longer payloads are cut to it.
                 _ => self.push_lsf(payload, store),
             },
         }
@@ -171,7 +172,7 @@ impl StreamQueue {
         }
     }
 
-    // A full queue stops data.
+    // A full queue stops data. Neither its CRC nor its LICH index is checked.
     fn push_data(mut self, payload: [u8; 30], store: &mut [u8]) -> StreamPushed
         requires { ⌜ (soundQueue self ≡ true) × (length (now store) ≡ STORE) ⌝ }
         ensures { λ r. ⌜ (r, now (store .exit)) ≡ dataPushed self payload (now (store .entry)) ⌝ }
@@ -217,6 +218,7 @@ fn unchanged(answer: StreamAnswer, queue: StreamQueue) -> StreamPushed
     }
 }
 
+// An answer with no LSF and no frame.
 fn nothing(answer: StreamReadAnswer, queue: StreamQueue) -> StreamRead
     ensures { λ r. ⌜ r ≡ notRead answer queue ⌝ }
 {

@@ -60,21 +60,21 @@ returns-4 c =
     let m = c .before .before .before in let k = m .before .before .before in let a = start (e k) .args in
     (λ t. (c .unchanged4 .ensures t, a .store .now))
     ∙ payload-short _ (a .self) (payload k) (a .store .now) (omega (arith, c .before .if3 .taken))
-    ∙ by-answer k (Payload _) (m .len .given .1)
+    ∙ by-answer k (Payload _) (m .decoded .given .1)
 
 returns-5 : tie.Need-returns-5
 returns-5 c =
     let y = c .before .before in let b = y .before .before in let m = b .before .before .before in let k = m .before .before .before in let a = start (e k) .args in
     y .push-data .ensures
     ∙ payload-data _ (a .self) (payload k) (a .store .now) (omega (arith, b .before .if3 .left)) (omega (arith, b .if4 .taken))
-    ∙ by-answer k (Payload _) (m .len .given .1)
+    ∙ by-answer k (Payload _) (m .decoded .given .1)
 
 returns-6 : tie.Need-returns-6
 returns-6 c =
     let y = c .before .before in let b = y .before .before in let m = b .before .before .before in let k = m .before .before .before in let a = start (e k) .args in
     y .push-lsf .ensures
     ∙ payload-lsf _ (a .self) (payload k) (a .store .now) (omega (arith, b .if4 .left))
-    ∙ by-answer k (Payload _) (m .len .given .1)
+    ∙ by-answer k (Payload _) (m .decoded .given .1)
 
 push-data-requires : tie.Need-push-data-requires
 push-data-requires c κs = let g = c .before .before .before .before .before .before .before .before .before in (sound g, full g)
