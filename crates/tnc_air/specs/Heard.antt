@@ -1,0 +1,80 @@
+-- What the TNC does with a frame from the air, from document 01's "From the air", "Answer numbers" and "Bounds for 8". Assumes nothing.
+use Prim.Native.Nat.{ℕ}
+use mathlib.Core.Bool.{Bool}
+use mathlib.Core.List.{List}
+use lib.Dec.{eqb}
+use lib.ListN.{length}
+use Rattle.choice.specs.Pick.{pick, and}
+use Rattle.store.specs.Room.{over}
+use Rattle.protocol.specs.Lsf.{fieldOf, modeBits}
+use Rattle.protocol.specs.Kinds.{modeOf}
+use Rattle.protocol.specs.declared.lsf.Mode.{Mode}
+use Rattle.protocol.specs.declared.lsf.Mode.the-variants.{Packet, Stream}
+use Rattle.kiss_build.specs.declared.Built.{Built}
+use Rattle.kiss_build.specs.declared.Built.the-variants.{Frame, PayloadTooBig, LsfWrongSize, OutOfRange, NoRoom}
+use Rattle.kiss_build.specs.Build.{Building, streamSetup, frameOf}
+use Rattle.outgoing.specs.declared.Outgoing.{Outgoing}
+use Rattle.outgoing.specs.Message.{noMessage, soundMessage}
+use Rattle.state.specs.declared.State.{State}
+use Rattle.state.specs.declared.State.the-variants.{RxStream, RxPacket}
+use Rattle.state.specs.State.{transmits, soundState}
+use Rattle.tnc_air.specs.declared.Radio.{Radio}
+use Rattle.tnc_air.specs.declared.AirAnswer.{AirAnswer}
+use Rattle.tnc_air.specs.declared.AirAnswer.the-variants.{Done, WrongStore, OutOfBounds}
+use Rattle.tnc_air.specs.declared.Heard.{Heard}
+
+-- the lengths of the two stores: an LSF of 30 bytes and a packet of 825; the longest message
+abbrev pub RX : ℕ
+RX = 855
+
+abbrev pub MESSAGE : ℕ
+MESSAGE = 1713
+
+unfoldable pub soundRadio : Radio → Bool
+soundRadio r = and (soundState (r .state)) (soundMessage (r .outgoing))
+
+abbrev pub answered : AirAnswer → Radio → Heard
+answered a r = record { answer = a; radio = r }
+
+-- the message that a builder's answer stands for
+abbrev pub messageOf : Built → Outgoing
+messageOf (Frame n) = record { len = n; read = 0 }
+messageOf PayloadTooBig = noMessage
+messageOf LsfWrongSize = noMessage
+messageOf OutOfRange = noMessage
+messageOf NoRoom = noMessage
+
+-- a new message to the host replaces one not fully read
+abbrev pub toHost : State → Building → List ℕ → Heard × List ℕ
+toHost s b out = (answered Done (record { state = s; outgoing = record { len = length (frameOf b); read = 0 } }), over (frameOf b) out)
+
+-- a packet begins: its LSF is kept, no frame of it has come, and a message that waits goes on waiting
+abbrev pub packetBegun : Radio → List ℕ → List ℕ → Heard × List ℕ
+packetBegun r lsf rx = (answered Done (record { state = RxPacket 0; outgoing = r .outgoing }), over lsf rx)
+
+-- a stream begins: its LSF goes to the host, and any number may come first
+abbrev pub streamBegun : List ℕ → List ℕ → Heard × List ℕ
+streamBegun lsf out = toHost (RxStream 0) (streamSetup lsf) out
+
+-- an LSF clears what went before; its CRC is not looked at
+abbrev pub begun : Mode → Radio → List ℕ → List ℕ → List ℕ → Heard × List ℕ × List ℕ
+begun Packet r lsf rx out = (packetBegun r lsf rx .0, packetBegun r lsf rx .1, out)
+begun Stream r lsf rx out = (streamBegun lsf out .0, rx, streamBegun lsf out .1)
+
+-- while PTT is on, frames are ignored
+unfoldable pub unlessSending : Radio → List ℕ → List ℕ → Heard × List ℕ × List ℕ → Heard × List ℕ × List ℕ
+unlessSending r rx out h =
+    pick (eqb (length rx) RX)
+    (pick (eqb (length out) MESSAGE)
+    (pick (soundRadio r) (pick (transmits (r .state)) (answered Done r, rx, out) h) (answered OutOfBounds r, rx, out))
+    (answered WrongStore r, rx, out))
+    (answered WrongStore r, rx, out)
+
+unfoldable pub lsfHeard : Radio → List ℕ → List ℕ → List ℕ → Heard × List ℕ × List ℕ
+lsfHeard r lsf rx out = unlessSending r rx out (begun (modeOf (fieldOf modeBits lsf)) r lsf rx out)
+
+-- document 01's numbers for the answers
+abbrev pub airNumber : AirAnswer → ℕ
+airNumber Done = 0
+airNumber WrongStore = 7
+airNumber OutOfBounds = 8

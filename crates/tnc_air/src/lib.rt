@@ -1,0 +1,119 @@
+// What the TNC does with frames from the air, as m17core's tnc.rs has it. What is being received stands in a store of 855 bytes that the caller lends, the LSF and behind
+// it the packet; the message to the host in one of 1,713 bytes.
+use kiss_build::Built;
+use kiss_build::new_stream_setup;
+use outgoing::Outgoing;
+use protocol::LsfFrame;
+use protocol::Mode;
+use state::State;
+ghost use mathlib.Core.Path.{_≡_};
+ghost use lib.ListN.{length};
+ghost use Rattle.tnc_air.specs.Heard.{RX, MESSAGE, soundRadio, messageOf, packetBegun, streamBegun, lsfHeard};
+
+pub const RX_STORE_LEN: usize = 855;
+
+pub const MESSAGE_STORE_LEN: usize = 1713;
+
+pub struct Radio {
+    pub state: State,
+    pub outgoing: Outgoing,
+}
+
+pub enum AirAnswer {
+    Done,
+    WrongStore,
+    OutOfBounds,
+}
+
+pub struct Heard {
+    pub answer: AirAnswer,
+    pub radio: Radio,
+}
+
+impl Radio {
+    pub fn is_sound(self) -> bool
+        ensures { λ r. ⌜ r ≡ soundRadio self ⌝ }
+    {
+        let state = self.state;
+        if !state.is_sound() {
+            return false;
+        }
+        self.outgoing.is_sound()
+    }
+
+    // A new LSF clears what went before. While we send, it is our own.
+    pub fn handle_lsf(self, lsf: LsfFrame, rx: &mut [u8], out: &mut [u8]) -> Heard
+        ensures { λ r. ⌜ (r, now (rx .exit), now (out .exit)) ≡ lsfHeard self (lsf .0) (now (rx .entry)) (now (out .entry)) ⌝ }
+    {
+        if rx.len() != RX_STORE_LEN {
+            return self.answered(AirAnswer::WrongStore);
+        }
+        if out.len() != MESSAGE_STORE_LEN {
+            return self.answered(AirAnswer::WrongStore);
+        }
+        if !self.is_sound() {
+            return self.answered(AirAnswer::OutOfBounds);
+        }
+        let state = self.state;
+        if state.ptt() {
+            return self.answered(AirAnswer::Done);
+        }
+        let bytes = lsf.0;
+        match lsf.mode() {
+            Mode::Packet => self.begin_packet(bytes, rx),
+            Mode::Stream => begin_stream(bytes, out),
+        }
+    }
+
+    fn answered(self, answer: AirAnswer) -> Heard
+        ensures { λ r. ⌜ r ≡ record { answer = answer; radio = self } ⌝ }
+    {
+        Heard {
+            answer: answer,
+            radio: self,
+        }
+    }
+
+    fn begin_packet(self, lsf: [u8; 30], rx: &mut [u8]) -> Heard
+        requires { ⌜ length (now rx) ≡ RX ⌝ }
+        ensures { λ r. ⌜ (r, now (rx .exit)) ≡ packetBegun self lsf (now (rx .entry)) ⌝ }
+    {
+        store::copy_in(&lsf, rx, 0);
+        let outgoing = self.outgoing;
+        Heard {
+            answer: AirAnswer::Done,
+            radio: Radio {
+                state: State::RxPacket(0),
+                outgoing: outgoing,
+            },
+        }
+    }
+}
+
+fn begin_stream(lsf: [u8; 30], out: &mut [u8]) -> Heard
+    requires { ⌜ length (now out) ≡ MESSAGE ⌝ }
+    ensures { λ r. ⌜ (r, now (out .exit)) ≡ streamBegun lsf (now (out .entry)) ⌝ }
+{
+    let built = new_stream_setup(&lsf, out);
+    let outgoing = message(built);
+    Heard {
+        answer: AirAnswer::Done,
+        radio: Radio {
+            state: State::RxStream(0),
+            outgoing: outgoing,
+        },
+    }
+}
+
+// A frame of ours always fits into the store, so there always is one.
+fn message(built: Built) -> Outgoing
+    ensures { λ r. ⌜ r ≡ messageOf built ⌝ }
+{
+    match built {
+        Built::Frame(len) => Outgoing { len: len, read: 0 },
+        Built::PayloadTooBig => Outgoing::new(),
+        Built::LsfWrongSize => Outgoing::new(),
+        Built::OutOfRange => Outgoing::new(),
+        Built::NoRoom => Outgoing::new(),
+    }
+}
