@@ -1,0 +1,69 @@
+-- What is promised of frames from the air, from document 01. Each is proved in proofs/Kept.antt. Assumes nothing.
+use Prim.Native.Nat.{ℕ}
+use mathlib.Core.Bool.{true, false}
+use mathlib.Core.Logic.{_≢_}
+use mathlib.Core.Path.{_≡_}
+use mathlib.Core.List.{List}
+use lib.ListN.{length}
+use Rattle.protocol.specs.Lsf.{fieldOf, modeBits}
+use Rattle.protocol.specs.Kinds.{modeOf}
+use Rattle.protocol.specs.declared.lsf.Mode.the-variants.{Packet, Stream}
+use Rattle.kiss_build.specs.Build.{streamSetup, frameOf}
+use Rattle.outgoing.specs.Message.{left}
+use Rattle.state.specs.declared.State.the-variants.{RxStream, RxPacket}
+use Rattle.state.specs.State.{transmits}
+use Rattle.tnc_air.specs.declared.Radio.{Radio}
+use Rattle.tnc_air.specs.declared.AirAnswer.{AirAnswer}
+use Rattle.tnc_air.specs.declared.Heard.{Heard}
+use Rattle.tnc_air.specs.Heard.{RX, MESSAGE, soundRadio, lsfHeard, airNumber}
+
+-- a record and its two stores, as the last call left them
+pub record Box : Type 0 where
+  pub radio : Radio
+  pub rx : List ℕ
+  pub out : List ℕ
+
+abbrev pub leftBy : Heard × List ℕ × List ℕ → Box
+leftBy h = record { radio = h .0 .radio; rx = h .1; out = h .2 }
+
+abbrev pub lsfAt : Box → List ℕ → Heard × List ℕ × List ℕ
+lsfAt x lsf = lsfHeard (x .radio) lsf (x .rx) (x .out)
+
+-- the stores have their lengths and the record is within its bounds
+pub record Sound (x : Box) : Type 0 where
+  pub its-rx : length (x .rx) ≡ RX
+  pub its-out : length (x .out) ≡ MESSAGE
+  pub its-state : soundRadio (x .radio) ≡ true
+
+-- with any answer but 0 nothing has changed
+abbrev pub RefusedKeepsAll : Type 0
+RefusedKeepsAll = (x : Box) (lsf : List ℕ) → airNumber (lsfAt x lsf .0 .answer) ≢ 0 → leftBy (lsfAt x lsf) ≡ x
+
+-- while PTT is on nothing that is heard changes anything
+abbrev pub SendingHearsNothing : Type 0
+SendingHearsNothing = (x : Box) (lsf : List ℕ) → transmits (x .radio .state) ≡ true → leftBy (lsfAt x lsf) ≡ x
+
+-- a sound box stays sound
+abbrev pub SoundStaysSound : Type 0
+SoundStaysSound = (x : Box) (lsf : List ℕ) → length lsf ≡ 30 → Sound x → Sound (leftBy (lsfAt x lsf))
+
+-- a box that receives
+pub record Receiving (x : Box) : Type 0 where
+  pub sound : Sound x
+  pub not-sending : transmits (x .radio .state) ≡ false
+
+-- whatever went before, after a packet's LSF no frame of it has come, and the message that waits is as it was
+pub record PacketBegins (x y : Box) (lsf : List ℕ) : Type 0 where
+  pub its-state : y .radio .state ≡ RxPacket 0
+  pub its-message : left (y .radio .outgoing) (y .out) ≡ left (x .radio .outgoing) (x .out)
+
+abbrev pub PacketLsfClears : Type 0
+PacketLsfClears = (x : Box) (lsf : List ℕ) → Receiving x → length lsf ≡ 30 → modeOf (fieldOf modeBits lsf) ≡ Packet → PacketBegins x (leftBy (lsfAt x lsf)) lsf
+
+-- whatever went before, after a stream's LSF any number may come first, and what the host has to read is that LSF, as a setup frame
+pub record StreamBegins (y : Box) (lsf : List ℕ) : Type 0 where
+  pub its-state : y .radio .state ≡ RxStream 0
+  pub its-message : left (y .radio .outgoing) (y .out) ≡ frameOf (streamSetup lsf)
+
+abbrev pub StreamLsfIsTold : Type 0
+StreamLsfIsTold = (x : Box) (lsf : List ℕ) → Receiving x → length lsf ≡ 30 → modeOf (fieldOf modeBits lsf) ≡ Stream → StreamBegins (leftBy (lsfAt x lsf)) lsf
