@@ -1,11 +1,11 @@
 -- What the TNC does with a frame from the air, from document 01's "From the air", "Answer numbers" and "Bounds for 8". Assumes nothing.
-use Prim.Native.Nat.{ℕ}
+use Prim.Native.Nat.{ℕ, _+_, _*_}
 use mathlib.Core.Bool.{Bool}
 use mathlib.Core.List.{List}
-use lib.Dec.{eqb}
+use lib.Dec.{eqb, ltb}
 use lib.ListN.{length}
 use Rattle.choice.specs.Pick.{pick, and}
-use Rattle.store.specs.Room.{over}
+use Rattle.store.specs.Room.{over, placed}
 use Rattle.protocol.specs.Lsf.{fieldOf, modeBits}
 use Rattle.protocol.specs.Kinds.{modeOf}
 use Rattle.protocol.specs.declared.lsf.Mode.{Mode}
@@ -16,11 +16,13 @@ use Rattle.kiss_build.specs.Build.{Building, streamSetup, frameOf}
 use Rattle.outgoing.specs.declared.Outgoing.{Outgoing}
 use Rattle.outgoing.specs.Message.{noMessage, soundMessage}
 use Rattle.state.specs.declared.State.{State}
-use Rattle.state.specs.declared.State.the-variants.{RxStream, RxPacket}
-use Rattle.state.specs.State.{transmits, soundState}
+use Rattle.state.specs.declared.State.the-variants.{Idle, RxStream, RxPacket}
+use Rattle.state.specs.declared.Reception.{Reception}
+use Rattle.state.specs.declared.Reception.the-variants.{Nothing, Acquiring as Segments, Stream as InStream, Packet as InPacket}
+use Rattle.state.specs.State.{transmits, receptionOf, soundState}
 use Rattle.tnc_air.specs.declared.Radio.{Radio}
 use Rattle.tnc_air.specs.declared.AirAnswer.{AirAnswer}
-use Rattle.tnc_air.specs.declared.AirAnswer.the-variants.{Done, WrongStore, OutOfBounds}
+use Rattle.tnc_air.specs.declared.AirAnswer.the-variants.{Done, OutOfRange as TooLarge, WrongStore, OutOfBounds}
 use Rattle.tnc_air.specs.declared.Heard.{Heard}
 
 -- the lengths of the two stores: an LSF of 30 bytes and a packet of 825; the longest message
@@ -61,6 +63,34 @@ abbrev pub begun : Mode → Radio → List ℕ → List ℕ → List ℕ → Hea
 begun Packet r lsf rx out = (packetBegun r lsf rx .0, packetBegun r lsf rx .1, out)
 begun Stream r lsf rx out = (streamBegun lsf out .0, rx, streamBegun lsf out .1)
 
+-- ---- a packet's frames
+
+abbrev pub idle : Radio → Heard
+idle r = answered Done (record { state = Idle; outgoing = r .outgoing })
+
+-- where the frame after so many stands: behind the LSF, 25 bytes for each
+abbrev pub placeOf : ℕ → ℕ
+placeOf count = 30 + 25 * count
+
+-- a packet index must equal the count and be below 32, else Idle
+unfoldable pub collectedAfter : Radio → ℕ → ℕ → List ℕ → List ℕ → Heard × List ℕ
+collectedAfter r count index payload rx =
+    pick (eqb index count)
+    (pick (ltb index 32) (answered Done (record { state = RxPacket (index + 1); outgoing = r .outgoing }), placed payload rx (placeOf index)) (idle r, rx))
+    (idle r, rx)
+
+-- outside of a packet's reception it goes to Idle
+abbrev pub collectedIn : Reception → Radio → ℕ → List ℕ → List ℕ → Heard × List ℕ
+collectedIn Nothing r index payload rx = (idle r, rx)
+collectedIn (Segments mask) r index payload rx = (idle r, rx)
+collectedIn (InStream expected) r index payload rx = (idle r, rx)
+collectedIn (InPacket count) r index payload rx = collectedAfter r count index payload rx
+
+abbrev pub collected : Radio → ℕ → List ℕ → List ℕ → Heard × List ℕ
+collected r index payload rx = collectedIn (receptionOf (r .state)) r index payload rx
+
+-- ---- any frame
+
 -- while PTT is on, frames are ignored
 unfoldable pub unlessSending : Radio → List ℕ → List ℕ → Heard × List ℕ × List ℕ → Heard × List ℕ × List ℕ
 unlessSending r rx out h =
@@ -76,5 +106,6 @@ lsfHeard r lsf rx out = unlessSending r rx out (begun (modeOf (fieldOf modeBits 
 -- document 01's numbers for the answers
 abbrev pub airNumber : AirAnswer → ℕ
 airNumber Done = 0
+airNumber TooLarge = 6
 airNumber WrongStore = 7
 airNumber OutOfBounds = 8

@@ -5,10 +5,11 @@ use kiss_build::new_stream_setup;
 use outgoing::Outgoing;
 use protocol::LsfFrame;
 use protocol::Mode;
+use state::Reception;
 use state::State;
 ghost use mathlib.Core.Path.{_≡_};
 ghost use lib.ListN.{length};
-ghost use Rattle.tnc_air.specs.Heard.{RX, MESSAGE, soundRadio, messageOf, packetBegun, streamBegun, lsfHeard};
+ghost use Rattle.tnc_air.specs.Heard.{RX, MESSAGE, soundRadio, messageOf, packetBegun, streamBegun, lsfHeard, idle, collected, collectedAfter};
 
 pub const RX_STORE_LEN: usize = 855;
 
@@ -21,6 +22,7 @@ pub struct Radio {
 
 pub enum AirAnswer {
     Done,
+    OutOfRange,
     WrongStore,
     OutOfBounds,
 }
@@ -71,6 +73,54 @@ impl Radio {
         Heard {
             answer: answer,
             radio: self,
+        }
+    }
+
+    fn idle(self) -> Heard
+        ensures { λ r. ⌜ r ≡ idle self ⌝ }
+    {
+        let outgoing = self.outgoing;
+        Heard {
+            answer: AirAnswer::Done,
+            radio: Radio {
+                state: State::Idle,
+                outgoing: outgoing,
+            },
+        }
+    }
+
+    // A frame that is not a packet's last.
+    fn collect(self, index: usize, payload: [u8; 25], rx: &mut [u8]) -> Heard
+        requires { ⌜ length (now rx) ≡ RX ⌝ }
+        ensures { λ r. ⌜ (r, now (rx .exit)) ≡ collected self index payload (now (rx .entry)) ⌝ }
+    {
+        let state = self.state;
+        match state.reception() {
+            Reception::Nothing => self.idle(),
+            Reception::Acquiring(_) => self.idle(),
+            Reception::Stream(_) => self.idle(),
+            Reception::Packet(count) => self.collect_after(count, index, payload, rx),
+        }
+    }
+
+    fn collect_after(self, count: usize, index: usize, payload: [u8; 25], rx: &mut [u8]) -> Heard
+        requires { ⌜ length (now rx) ≡ RX ⌝ }
+        ensures { λ r. ⌜ (r, now (rx .exit)) ≡ collectedAfter self count index payload (now (rx .entry)) ⌝ }
+    {
+        if index != count {
+            return self.idle();
+        }
+        if 32 <= index {
+            return self.idle();
+        }
+        store::copy_in(&payload, rx, 30 + 25 * index);
+        let outgoing = self.outgoing;
+        Heard {
+            answer: AirAnswer::Done,
+            radio: Radio {
+                state: State::RxPacket(index + 1),
+                outgoing: outgoing,
+            },
         }
     }
 
