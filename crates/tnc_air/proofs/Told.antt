@@ -5,10 +5,10 @@ use mathlib.Core.Path.{_≡_, refl, sym, ap, _∙_}
 use mathlib.Core.List.{List}
 use native.Mathlib.Omega.{arith}
 use lib.ListN.{length}
-use Rattle.choice.specs.Pick.{pick-yes}
-use borrow.Author.Tests.{eq-eqb}
+use Rattle.choice.specs.Pick.{pick-yes, pick-no}
+use borrow.Author.Tests.{eq-eqb, le-ltb}
 use Rattle.kiss_build.specs.declared.Built.{Built}
-use Rattle.kiss_build.specs.Build.{Building, streamSetup, refusal, frameOf, built}
+use Rattle.kiss_build.specs.Build.{Building, fullPacket, streamSetup, refusal, frameOf, built}
 use Rattle.kiss_build.specs.Promises.{Accepted}
 use Rattle.kiss_build.proofs.Kept.{accepted-is-built, built-at-most-1713}
 use Rattle.outgoing.specs.declared.Outgoing.{Outgoing}
@@ -29,3 +29,8 @@ told s b out last r o ok full e m =
 pub setup-accepted : (lsf : List ℕ) → length lsf ≡ 30 → Accepted (streamSetup lsf)
 unfolding refusal
 setup-accepted lsf h = record { typed = Prim.tt; not-refused = sym (pick-yes _ (eq-eqb (length lsf) 30 h) refl) }
+
+pub packet-accepted : (lsf packet : List ℕ) → length lsf ≡ 30 → length packet ≤ 825 → Accepted (fullPacket lsf packet)
+unfolding refusal
+packet-accepted lsf packet h k =
+    record { typed = Prim.tt; not-refused = sym (pick-yes _ (eq-eqb (length lsf) 30 h) (pick-no _ (le-ltb 825 (length packet) k) refl)) }

@@ -3,16 +3,16 @@ use Prim.Native.Nat.{ℕ, _+_, _*_}
 use mathlib.Core.Bool.{Bool}
 use mathlib.Core.List.{List}
 use lib.Dec.{eqb, ltb}
-use lib.ListN.{length}
+use lib.ListN.{length, take}
 use Rattle.choice.specs.Pick.{pick, and}
 use Rattle.store.specs.Room.{over, placed}
-use Rattle.protocol.specs.Lsf.{fieldOf, modeBits}
+use Rattle.protocol.specs.Lsf.{part, fieldOf, modeBits}
 use Rattle.protocol.specs.Kinds.{modeOf}
 use Rattle.protocol.specs.declared.lsf.Mode.{Mode}
 use Rattle.protocol.specs.declared.lsf.Mode.the-variants.{Packet, Stream}
 use Rattle.kiss_build.specs.declared.Built.{Built}
 use Rattle.kiss_build.specs.declared.Built.the-variants.{Frame, PayloadTooBig, LsfWrongSize, OutOfRange, NoRoom}
-use Rattle.kiss_build.specs.Build.{Building, streamSetup, frameOf}
+use Rattle.kiss_build.specs.Build.{Building, fullPacket, streamSetup, frameOf}
 use Rattle.outgoing.specs.declared.Outgoing.{Outgoing}
 use Rattle.outgoing.specs.Message.{noMessage, soundMessage}
 use Rattle.state.specs.declared.State.{State}
@@ -88,6 +88,18 @@ collectedIn (InPacket count) r index payload rx = collectedAfter r count index p
 
 abbrev pub collected : Radio → ℕ → List ℕ → List ℕ → Heard × List ℕ
 collected r index payload rx = collectedIn (receptionOf (r .state)) r index payload rx
+
+-- the store once the first bytes of a last frame stand in it
+abbrev pub completed : ℕ → ℕ → List ℕ → List ℕ → List ℕ
+completed count len payload rx = placed (take len payload) rx (placeOf count)
+
+-- a packet of so many bytes goes to the host behind its LSF, and the radio is idle
+abbrev pub packetTold : ℕ → List ℕ → List ℕ → Heard × List ℕ
+packetTold len rx out = toHost Idle (fullPacket (part 0 30 rx) (part 30 len rx)) out
+
+unfoldable pub finishedAfter : ℕ → ℕ → List ℕ → List ℕ → List ℕ → Heard × List ℕ × List ℕ
+finishedAfter count len payload rx out =
+    let whole = completed count len payload rx in let told = packetTold (25 * count + len) whole out in (told .0, whole, told .1)
 
 -- ---- any frame
 

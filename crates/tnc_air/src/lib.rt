@@ -1,15 +1,17 @@
 // What the TNC does with frames from the air, as m17core's tnc.rs has it. What is being received stands in a store of 855 bytes that the caller lends, the LSF and behind
 // it the packet; the message to the host in one of 1,713 bytes.
 use kiss_build::Built;
+use kiss_build::new_full_packet;
 use kiss_build::new_stream_setup;
 use outgoing::Outgoing;
 use protocol::LsfFrame;
 use protocol::Mode;
 use state::Reception;
 use state::State;
+ghost use Prim.Native.Nat.{_≤_};
 ghost use mathlib.Core.Path.{_≡_};
 ghost use lib.ListN.{length};
-ghost use Rattle.tnc_air.specs.Heard.{RX, MESSAGE, soundRadio, messageOf, packetBegun, streamBegun, lsfHeard, idle, collected, collectedAfter};
+ghost use Rattle.tnc_air.specs.Heard.{RX, MESSAGE, soundRadio, messageOf, packetBegun, streamBegun, lsfHeard, idle, collected, collectedAfter, packetTold, finishedAfter};
 
 pub const RX_STORE_LEN: usize = 855;
 
@@ -137,6 +139,32 @@ impl Radio {
                 outgoing: outgoing,
             },
         }
+    }
+}
+
+// A packet's last frame, after so many others: the packet goes to the host.
+fn finish_after(count: usize, len: usize, payload: [u8; 25], rx: &mut [u8], out: &mut [u8]) -> Heard
+    requires { ⌜ (count ≤ 32) × (len ≤ 25) × (length (now rx) ≡ RX) × (length (now out) ≡ MESSAGE) ⌝ }
+    ensures { λ r. ⌜ (r, now (rx .exit), now (out .exit)) ≡ finishedAfter count len payload (now (rx .entry)) (now (out .entry)) ⌝ }
+{
+    let before = 25 * count;
+    store::copy_in(&payload[..len], rx, 30 + before);
+    tell_packet(rx, before + len, out)
+}
+
+// Two parts of one store go to the builder, which only a shared reference can lend.
+fn tell_packet(rx: &[u8], len: usize, out: &mut [u8]) -> Heard
+    requires { ⌜ (len ≤ 825) × (length (now rx) ≡ RX) × (length (now out) ≡ MESSAGE) ⌝ }
+    ensures { λ r. ⌜ (r, now (out .exit)) ≡ packetTold len (now (rx .entry)) (now (out .entry)) ⌝ }
+{
+    let built = new_full_packet(&rx[..30], &rx[30..30 + len], out);
+    let outgoing = message(built);
+    Heard {
+        answer: AirAnswer::Done,
+        radio: Radio {
+            state: State::Idle,
+            outgoing: outgoing,
+        },
     }
 }
 
