@@ -8,6 +8,9 @@ use Rattle.choice.specs.Pick.{pick, and}
 use Rattle.store.specs.Room.{over, placed}
 use Rattle.protocol.specs.Lsf.{part, fieldOf, modeBits}
 use Rattle.protocol.specs.Kinds.{modeOf}
+use Rattle.protocol.specs.declared.PacketFrame.{PacketFrame}
+use Rattle.protocol.specs.declared.PacketFrameCounter.{PacketFrameCounter}
+use Rattle.protocol.specs.declared.PacketFrameCounter.the-variants.{Frame as Counted, FinalFrame as Final}
 use Rattle.protocol.specs.declared.lsf.Mode.{Mode}
 use Rattle.protocol.specs.declared.lsf.Mode.the-variants.{Packet, Stream}
 use Rattle.kiss_build.specs.declared.Built.{Built}
@@ -101,6 +104,20 @@ unfoldable pub finishedAfter : ℕ → ℕ → List ℕ → List ℕ → List �
 finishedAfter count len payload rx out =
     let whole = completed count len payload rx in let told = packetTold (25 * count + len) whole out in (told .0, whole, told .1)
 
+abbrev pub finishedIn : Reception → Radio → ℕ → List ℕ → List ℕ → List ℕ → Heard × List ℕ × List ℕ
+finishedIn Nothing r len payload rx out = (idle r, rx, out)
+finishedIn (Segments mask) r len payload rx out = (idle r, rx, out)
+finishedIn (InStream expected) r len payload rx out = (idle r, rx, out)
+finishedIn (InPacket count) r len payload rx out = finishedAfter count len payload rx out
+
+-- a final length over 25 is 6, in every state that hears
+unfoldable pub finished : Radio → ℕ → List ℕ → List ℕ → List ℕ → Heard × List ℕ × List ℕ
+finished r len payload rx out = pick (ltb 25 len) (answered TooLarge r, rx, out) (finishedIn (receptionOf (r .state)) r len payload rx out)
+
+abbrev pub counted : PacketFrameCounter → Radio → List ℕ → List ℕ → List ℕ → Heard × List ℕ × List ℕ
+counted (Counted index) r payload rx out = (collected r index payload rx .0, collected r index payload rx .1, out)
+counted (Final len) r payload rx out = finished r len payload rx out
+
 -- ---- any frame
 
 -- while PTT is on, frames are ignored
@@ -114,6 +131,9 @@ unlessSending r rx out h =
 
 unfoldable pub lsfHeard : Radio → List ℕ → List ℕ → List ℕ → Heard × List ℕ × List ℕ
 lsfHeard r lsf rx out = unlessSending r rx out (begun (modeOf (fieldOf modeBits lsf)) r lsf rx out)
+
+unfoldable pub packetHeard : Radio → PacketFrame → List ℕ → List ℕ → Heard × List ℕ × List ℕ
+packetHeard r frame rx out = unlessSending r rx out (counted (frame .counter) r (frame .payload) rx out)
 
 -- document 01's numbers for the answers
 abbrev pub airNumber : AirAnswer → ℕ

@@ -6,12 +6,15 @@ use kiss_build::new_stream_setup;
 use outgoing::Outgoing;
 use protocol::LsfFrame;
 use protocol::Mode;
+use protocol::PacketFrame;
+use protocol::PacketFrameCounter;
 use state::Reception;
 use state::State;
 ghost use Prim.Native.Nat.{_≤_};
+ghost use mathlib.Core.Bool.{true};
 ghost use mathlib.Core.Path.{_≡_};
 ghost use lib.ListN.{length};
-ghost use Rattle.tnc_air.specs.Heard.{RX, MESSAGE, soundRadio, messageOf, packetBegun, streamBegun, lsfHeard, idle, collected, collectedAfter, packetTold, finishedAfter};
+ghost use Rattle.tnc_air.specs.Heard.{RX, MESSAGE, soundRadio, messageOf, packetBegun, streamBegun, lsfHeard, idle, collected, collectedAfter, packetTold, finishedAfter, finished, packetHeard};
 
 pub const RX_STORE_LEN: usize = 855;
 
@@ -69,6 +72,36 @@ impl Radio {
         }
     }
 
+    // The packet goes to the host with its last frame, be its length 0 too. A frame that does not follow makes the radio idle.
+    pub fn handle_packet(self, frame: PacketFrame, rx: &mut [u8], out: &mut [u8]) -> Heard
+        ensures { λ r. ⌜ (r, now (rx .exit), now (out .exit)) ≡ packetHeard self frame (now (rx .entry)) (now (out .entry)) ⌝ }
+    {
+        if rx.len() != RX_STORE_LEN {
+            return self.answered(AirAnswer::WrongStore);
+        }
+        if out.len() != MESSAGE_STORE_LEN {
+            return self.answered(AirAnswer::WrongStore);
+        }
+        if !self.is_sound() {
+            return self.answered(AirAnswer::OutOfBounds);
+        }
+        let state = self.state;
+        if state.ptt() {
+            return self.answered(AirAnswer::Done);
+        }
+        let payload = frame.payload;
+        let counter = frame.counter;
+        match counter {
+            PacketFrameCounter::Frame { index } => self.collect(index, payload, rx),
+            PacketFrameCounter::FinalFrame { payload_len } => self.finish(
+                payload_len,
+                payload,
+                rx,
+                out,
+            ),
+        }
+    }
+
     fn answered(self, answer: AirAnswer) -> Heard
         ensures { λ r. ⌜ r ≡ record { answer = answer; radio = self } ⌝ }
     {
@@ -123,6 +156,23 @@ impl Radio {
                 state: State::RxPacket(index + 1),
                 outgoing: outgoing,
             },
+        }
+    }
+
+    // A packet's last frame.
+    fn finish(self, len: usize, payload: [u8; 25], rx: &mut [u8], out: &mut [u8]) -> Heard
+        requires { ⌜ (soundRadio self ≡ true) × (length (now rx) ≡ RX) × (length (now out) ≡ MESSAGE) ⌝ }
+        ensures { λ r. ⌜ (r, now (rx .exit), now (out .exit)) ≡ finished self len payload (now (rx .entry)) (now (out .entry)) ⌝ }
+    {
+        if 25 < len {
+            return self.answered(AirAnswer::OutOfRange);
+        }
+        let state = self.state;
+        match state.reception() {
+            Reception::Nothing => self.idle(),
+            Reception::Acquiring(_) => self.idle(),
+            Reception::Stream(_) => self.idle(),
+            Reception::Packet(count) => finish_after(count, len, payload, rx, out),
         }
     }
 
