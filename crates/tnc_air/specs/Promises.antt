@@ -7,15 +7,16 @@ use mathlib.Core.List.{List}
 use lib.ListN.{length}
 use Rattle.protocol.specs.Lsf.{fieldOf, modeBits}
 use Rattle.protocol.specs.Kinds.{modeOf}
+use Rattle.protocol.specs.declared.PacketFrame.{PacketFrame}
 use Rattle.protocol.specs.declared.lsf.Mode.the-variants.{Packet, Stream}
 use Rattle.kiss_build.specs.Build.{streamSetup, frameOf}
 use Rattle.outgoing.specs.Message.{left}
 use Rattle.state.specs.declared.State.the-variants.{RxStream, RxPacket}
 use Rattle.state.specs.State.{transmits}
 use Rattle.tnc_air.specs.declared.Radio.{Radio}
-use Rattle.tnc_air.specs.declared.AirAnswer.{AirAnswer}
+use Rattle.tnc_air.specs.declared.AirAnswer.the-variants.{Done}
 use Rattle.tnc_air.specs.declared.Heard.{Heard}
-use Rattle.tnc_air.specs.Heard.{RX, MESSAGE, soundRadio, lsfHeard, airNumber}
+use Rattle.tnc_air.specs.Heard.{RX, MESSAGE, soundRadio, answered, lsfHeard, packetHeard, airNumber}
 
 -- a record and its two stores, as the last call left them
 pub record Box : Type 0 where
@@ -29,6 +30,20 @@ leftBy h = record { radio = h .0 .radio; rx = h .1; out = h .2 }
 abbrev pub lsfAt : Box → List ℕ → Heard × List ℕ × List ℕ
 lsfAt x lsf = lsfHeard (x .radio) lsf (x .rx) (x .out)
 
+-- a frame from the air, and what it does
+pub data AirFrame : Type 0 where
+  lsf : (bytes : List ℕ) → AirFrame
+  packet : (frame : PacketFrame) → AirFrame
+
+abbrev pub heardAt : Box → AirFrame → Heard × List ℕ × List ℕ
+heardAt x (lsf bytes) = lsfAt x bytes
+heardAt x (packet frame) = packetHeard (x .radio) frame (x .rx) (x .out)
+
+-- the arrays of a frame have their types' lengths
+abbrev pub Typed : AirFrame → Type 0
+Typed (lsf bytes) = length bytes ≡ 30
+Typed (packet frame) = length (frame .payload) ≡ 25
+
 -- the stores have their lengths and the record is within its bounds
 pub record Sound (x : Box) : Type 0 where
   pub its-rx : length (x .rx) ≡ RX
@@ -37,15 +52,15 @@ pub record Sound (x : Box) : Type 0 where
 
 -- with any answer but 0 nothing has changed
 abbrev pub RefusedKeepsAll : Type 0
-RefusedKeepsAll = (x : Box) (lsf : List ℕ) → airNumber (lsfAt x lsf .0 .answer) ≢ 0 → leftBy (lsfAt x lsf) ≡ x
+RefusedKeepsAll = (x : Box) (f : AirFrame) → airNumber (heardAt x f .0 .answer) ≢ 0 → leftBy (heardAt x f) ≡ x
 
--- while PTT is on nothing that is heard changes anything
+-- while PTT is on every frame, one out of range too, is answered 0 and changes nothing
 abbrev pub SendingHearsNothing : Type 0
-SendingHearsNothing = (x : Box) (lsf : List ℕ) → transmits (x .radio .state) ≡ true → leftBy (lsfAt x lsf) ≡ x
+SendingHearsNothing = (x : Box) (f : AirFrame) → Sound x → transmits (x .radio .state) ≡ true → heardAt x f ≡ (answered Done (x .radio), x .rx, x .out)
 
 -- a sound box stays sound
 abbrev pub SoundStaysSound : Type 0
-SoundStaysSound = (x : Box) (lsf : List ℕ) → length lsf ≡ 30 → Sound x → Sound (leftBy (lsfAt x lsf))
+SoundStaysSound = (x : Box) (f : AirFrame) → Typed f → Sound x → Sound (leftBy (heardAt x f))
 
 -- a box that receives
 pub record Receiving (x : Box) : Type 0 where
