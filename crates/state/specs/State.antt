@@ -4,6 +4,8 @@ use mathlib.Core.Bool.{Bool, true, false}
 use lib.Dec.{ltb, leb}
 use Rattle.choice.specs.Pick.{pick}
 use Rattle.state.specs.declared.State.{State}
+use Rattle.state.specs.declared.Reception.{Reception}
+use Rattle.state.specs.declared.Reception.the-variants.{Nothing, Acquiring, Stream, Packet}
 use Rattle.state.specs.declared.State.the-variants.{Idle, RxAcquiringStream, RxStream, RxPacket, TxStream, TxStreamSentEndOfStream, TxPacket, TxEnding, TxEndingAtTime}
 
 -- PTT is on exactly in the five transmit states
@@ -17,6 +19,18 @@ transmits TxStreamSentEndOfStream = true
 transmits TxPacket = true
 transmits TxEnding = true
 transmits (TxEndingAtTime end) = true
+
+-- what is being received in a state
+abbrev pub receptionOf : State → Reception
+receptionOf Idle = Nothing
+receptionOf (RxAcquiringStream mask) = Acquiring mask
+receptionOf (RxStream expected) = Stream expected
+receptionOf (RxPacket count) = Packet count
+receptionOf TxStream = Nothing
+receptionOf TxStreamSentEndOfStream = Nothing
+receptionOf TxPacket = Nothing
+receptionOf TxEnding = Nothing
+receptionOf (TxEndingAtTime end) = Nothing
 
 -- the latest end: the clock's limit and 2^32 samples
 abbrev pub LASTEND : ℕ

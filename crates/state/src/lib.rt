@@ -1,6 +1,6 @@
 // What the TNC is doing, with the names of m17core's tnc.rs, and how the clock ends a transmission.
 ghost use mathlib.Core.Path.{_≡_};
-ghost use Rattle.state.specs.State.{transmits, soundState, timeReached, endingAt};
+ghost use Rattle.state.specs.State.{transmits, receptionOf, soundState, timeReached, endingAt};
 
 // The bytes that go with a reception stand in a store of the caller's: the LSF, or its LICH segments, and the packet.
 pub enum State {
@@ -19,6 +19,14 @@ pub enum State {
     TxEndingAtTime(u64),
 }
 
+// What is being received, with the number that goes with it.
+pub enum Reception {
+    Nothing,
+    Acquiring(u8),
+    Stream(u16),
+    Packet(usize),
+}
+
 impl State {
     // Is PTT on?
     pub fn ptt(self) -> bool
@@ -34,6 +42,22 @@ impl State {
             State::TxPacket => true,
             State::TxEnding => true,
             State::TxEndingAtTime(_) => true,
+        }
+    }
+
+    pub fn reception(self) -> Reception
+        ensures { λ r. ⌜ r ≡ receptionOf self ⌝ }
+    {
+        match self {
+            State::Idle => Reception::Nothing,
+            State::RxAcquiringStream(mask) => Reception::Acquiring(mask),
+            State::RxStream(expected) => Reception::Stream(expected),
+            State::RxPacket(count) => Reception::Packet(count),
+            State::TxStream => Reception::Nothing,
+            State::TxStreamSentEndOfStream => Reception::Nothing,
+            State::TxPacket => Reception::Nothing,
+            State::TxEnding => Reception::Nothing,
+            State::TxEndingAtTime(_) => Reception::Nothing,
         }
     }
 

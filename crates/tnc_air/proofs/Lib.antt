@@ -1,0 +1,4 @@
+pub mod Told
+pub mod Cases
+pub mod Packets
+pub mod Kept

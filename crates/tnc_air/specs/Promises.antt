@@ -1,0 +1,84 @@
+-- What is promised of frames from the air, from document 01. Each is proved in proofs/Kept.antt. Assumes nothing.
+use Prim.Native.Nat.{ℕ}
+use mathlib.Core.Bool.{true, false}
+use mathlib.Core.Logic.{_≢_}
+use mathlib.Core.Path.{_≡_}
+use mathlib.Core.List.{List}
+use lib.ListN.{length}
+use Rattle.protocol.specs.Lsf.{fieldOf, modeBits}
+use Rattle.protocol.specs.Kinds.{modeOf}
+use Rattle.protocol.specs.declared.PacketFrame.{PacketFrame}
+use Rattle.protocol.specs.declared.lsf.Mode.the-variants.{Packet, Stream}
+use Rattle.kiss_build.specs.Build.{streamSetup, frameOf}
+use Rattle.outgoing.specs.Message.{left}
+use Rattle.state.specs.declared.State.the-variants.{RxStream, RxPacket}
+use Rattle.state.specs.State.{transmits}
+use Rattle.tnc_air.specs.declared.Radio.{Radio}
+use Rattle.tnc_air.specs.declared.AirAnswer.the-variants.{Done}
+use Rattle.tnc_air.specs.declared.Heard.{Heard}
+use Rattle.tnc_air.specs.Heard.{RX, MESSAGE, soundRadio, answered, lsfHeard, packetHeard, airNumber}
+
+-- a record and its two stores, as the last call left them
+pub record Box : Type 0 where
+  pub radio : Radio
+  pub rx : List ℕ
+  pub out : List ℕ
+
+abbrev pub leftBy : Heard × List ℕ × List ℕ → Box
+leftBy h = record { radio = h .0 .radio; rx = h .1; out = h .2 }
+
+abbrev pub lsfAt : Box → List ℕ → Heard × List ℕ × List ℕ
+lsfAt x lsf = lsfHeard (x .radio) lsf (x .rx) (x .out)
+
+-- a frame from the air, and what it does
+pub data AirFrame : Type 0 where
+  lsf : (bytes : List ℕ) → AirFrame
+  packet : (frame : PacketFrame) → AirFrame
+
+abbrev pub heardAt : Box → AirFrame → Heard × List ℕ × List ℕ
+heardAt x (lsf bytes) = lsfAt x bytes
+heardAt x (packet frame) = packetHeard (x .radio) frame (x .rx) (x .out)
+
+-- the arrays of a frame have their types' lengths
+abbrev pub Typed : AirFrame → Type 0
+Typed (lsf bytes) = length bytes ≡ 30
+Typed (packet frame) = length (frame .payload) ≡ 25
+
+-- the stores have their lengths and the record is within its bounds
+pub record Sound (x : Box) : Type 0 where
+  pub its-rx : length (x .rx) ≡ RX
+  pub its-out : length (x .out) ≡ MESSAGE
+  pub its-state : soundRadio (x .radio) ≡ true
+
+-- with any answer but 0 nothing has changed
+abbrev pub RefusedKeepsAll : Type 0
+RefusedKeepsAll = (x : Box) (f : AirFrame) → airNumber (heardAt x f .0 .answer) ≢ 0 → leftBy (heardAt x f) ≡ x
+
+-- while PTT is on every frame, one out of range too, is answered 0 and changes nothing
+abbrev pub SendingHearsNothing : Type 0
+SendingHearsNothing = (x : Box) (f : AirFrame) → Sound x → transmits (x .radio .state) ≡ true → heardAt x f ≡ (answered Done (x .radio), x .rx, x .out)
+
+-- a sound box stays sound
+abbrev pub SoundStaysSound : Type 0
+SoundStaysSound = (x : Box) (f : AirFrame) → Typed f → Sound x → Sound (leftBy (heardAt x f))
+
+-- a box that receives
+pub record Receiving (x : Box) : Type 0 where
+  pub sound : Sound x
+  pub not-sending : transmits (x .radio .state) ≡ false
+
+-- whatever went before, after a packet's LSF no frame of it has come, and the message that waits is as it was
+pub record PacketBegins (x y : Box) (lsf : List ℕ) : Type 0 where
+  pub its-state : y .radio .state ≡ RxPacket 0
+  pub its-message : left (y .radio .outgoing) (y .out) ≡ left (x .radio .outgoing) (x .out)
+
+abbrev pub PacketLsfClears : Type 0
+PacketLsfClears = (x : Box) (lsf : List ℕ) → Receiving x → length lsf ≡ 30 → modeOf (fieldOf modeBits lsf) ≡ Packet → PacketBegins x (leftBy (lsfAt x lsf)) lsf
+
+-- whatever went before, after a stream's LSF any number may come first, and what the host has to read is that LSF, as a setup frame
+pub record StreamBegins (y : Box) (lsf : List ℕ) : Type 0 where
+  pub its-state : y .radio .state ≡ RxStream 0
+  pub its-message : left (y .radio .outgoing) (y .out) ≡ frameOf (streamSetup lsf)
+
+abbrev pub StreamLsfIsTold : Type 0
+StreamLsfIsTold = (x : Box) (lsf : List ℕ) → Receiving x → length lsf ≡ 30 → modeOf (fieldOf modeBits lsf) ≡ Stream → StreamBegins (leftBy (lsfAt x lsf)) lsf
