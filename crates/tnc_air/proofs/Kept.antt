@@ -182,7 +182,7 @@ sound-stays-sound x (packet frame) e s =
 
 -- ---- an LSF that is listened to
 
-heard : (x : Box) (bytes : List ℕ) (m : Mode) → Receiving x → modeOf (fieldOf modeBits bytes) ≡ m → lsfAt x bytes ≡ begun m (x .radio) bytes (x .rx) (x .out)
+pub heard : (x : Box) (bytes : List ℕ) (m : Mode) → Receiving x → modeOf (fieldOf modeBits bytes) ≡ m → lsfAt x bytes ≡ begun m (x .radio) bytes (x .rx) (x .out)
 unfolding lsfHeard
 heard x bytes m g e =
     sym (listens (x .radio) (x .rx) (x .out) _ (g .sound .its-rx) (g .sound .its-out) (g .sound .its-state) (g .not-sending))
@@ -192,7 +192,7 @@ pub packet-lsf-clears : PacketLsfClears
 packet-lsf-clears x bytes g e m = subst (λ h. PacketBegins x (leftBy h) bytes) (sym (heard x bytes Packet g m)) (record { its-state = refl; its-message = refl })
 
 -- what there is to read of a message that stands at the store's start
-left-over : (f d : List ℕ) → left (record { len = length f; read = 0 }) (over f d) ≡ f
+pub left-over : (f d : List ℕ) → left (record { len = length f; read = 0 }) (over f d) ≡ f
 unfolding left
 left-over f d = take-at f (drop (length f) d) (length f - 0) (omega arith)
 

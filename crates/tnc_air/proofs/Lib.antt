@@ -2,3 +2,4 @@ pub mod Told
 pub mod Cases
 pub mod Packets
 pub mod Kept
+pub mod Rebuilt

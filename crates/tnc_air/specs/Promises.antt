@@ -1,17 +1,19 @@
 -- What is promised of frames from the air, from document 01. Each is proved in proofs/Kept.antt. Assumes nothing.
-use Prim.Native.Nat.{ℕ}
+use Prim.{Unit}
+use Prim.Native.Nat.{ℕ, _+_, _≤_}
 use mathlib.Core.Bool.{true, false}
 use mathlib.Core.Logic.{_≢_}
 use mathlib.Core.Path.{_≡_}
-use mathlib.Core.List.{List}
-use lib.ListN.{length}
+use mathlib.Core.List.{List, [], _∷_, _++_}
+use lib.ListN.{length, take}
 use Rattle.protocol.specs.Lsf.{fieldOf, modeBits}
 use Rattle.protocol.specs.Kinds.{modeOf}
 use Rattle.protocol.specs.declared.PacketFrame.{PacketFrame}
+use Rattle.protocol.specs.declared.PacketFrameCounter.the-variants.{Frame as Counted, FinalFrame as Final}
 use Rattle.protocol.specs.declared.lsf.Mode.the-variants.{Packet, Stream}
-use Rattle.kiss_build.specs.Build.{streamSetup, frameOf}
+use Rattle.kiss_build.specs.Build.{fullPacket, streamSetup, frameOf}
 use Rattle.outgoing.specs.Message.{left}
-use Rattle.state.specs.declared.State.the-variants.{RxStream, RxPacket}
+use Rattle.state.specs.declared.State.the-variants.{Idle, RxStream, RxPacket}
 use Rattle.state.specs.State.{transmits}
 use Rattle.tnc_air.specs.declared.Radio.{Radio}
 use Rattle.tnc_air.specs.declared.AirAnswer.the-variants.{Done}
@@ -82,3 +84,39 @@ pub record StreamBegins (y : Box) (lsf : List ℕ) : Type 0 where
 
 abbrev pub StreamLsfIsTold : Type 0
 StreamLsfIsTold = (x : Box) (lsf : List ℕ) → Receiving x → length lsf ≡ 30 → modeOf (fieldOf modeBits lsf) ≡ Stream → StreamBegins (leftBy (lsfAt x lsf)) lsf
+
+-- ---- a packet is rebuilt
+
+abbrev pub after : Box → AirFrame → Box
+after x f = leftBy (heardAt x f)
+
+unfoldable pub afterAll : Box → List AirFrame → Box
+afterAll x [] = x
+afterAll x (f ∷ fs) = afterAll (after x f) fs
+
+-- frames that are not the last, numbered from an index on
+unfoldable pub numbered : ℕ → List (List ℕ) → List AirFrame
+numbered index [] = []
+numbered index (p ∷ ps) = packet (record { payload = p; counter = Counted index }) ∷ numbered (index + 1) ps
+
+abbrev pub lastOf : ℕ → List ℕ → AirFrame
+lastOf len p = packet (record { payload = p; counter = Final len })
+
+unfoldable pub joined : List (List ℕ) → List ℕ
+joined [] = []
+joined (p ∷ ps) = p ++ joined ps
+
+unfoldable pub All25 : List (List ℕ) → Type 0
+All25 [] = Unit {0}
+All25 (p ∷ ps) = (length p ≡ 25) × All25 ps
+
+pub record ToldPacket (y : Box) (bytes content : List ℕ) : Type 0 where
+  pub its-state : y .radio .state ≡ Idle
+  pub its-message : left (y .radio .outgoing) (y .out) ≡ frameOf (fullPacket bytes content)
+
+-- whatever went before: a packet's LSF, at most 32 frames from index 0 on and a last one leave the host to read that LSF and the frames' bytes, joined, in one frame
+abbrev pub PacketIsRebuilt : Type 0
+PacketIsRebuilt =
+    (x : Box) (bytes : List ℕ) (ps : List (List ℕ)) (p : List ℕ) (len : ℕ) → Receiving x → length bytes ≡ 30 → modeOf (fieldOf modeBits bytes) ≡ Packet
+    → length ps ≤ 32 → All25 ps → length p ≡ 25 → len ≤ 25
+    → ToldPacket (after (afterAll (after x (lsf bytes)) (numbered 0 ps)) (lastOf len p)) bytes (joined ps ++ take len p)
