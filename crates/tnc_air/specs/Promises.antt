@@ -1,4 +1,4 @@
--- What is promised of frames from the air, from document 01. Each is proved in proofs/Kept.antt. Assumes nothing.
+-- What is promised of frames from the air, from document 01. Each is proved in proofs/Kept.antt, the last in proofs/Rebuilt.antt. Assumes nothing.
 use Prim.{Unit}
 use Prim.Native.Nat.{ℕ, _+_, _≤_}
 use mathlib.Core.Bool.{true, false}
