@@ -144,13 +144,13 @@ impl PacketQueue {
         if !has_payload(frame) {
             return self.answered(PushAnswer::MalformedKissFrame);
         }
-        let at = ROOM_LEN * self.next;
-        let n = decode_into(frame, store, at);
+        let room = ROOM_LEN * self.next;
+        let n = decode_into(frame, store, room);
         if MAX_BASIC_LEN < n {
-            store::copy_in(&[0u8; 855], store, at);
+            store::copy_in(&[0u8; 855], store, room);
             return self.answered(PushAnswer::Ignored);
         }
-        seal(store, at, n);
+        seal(store, room, n);
         self.accepted(n + 3)
     }
 
