@@ -1,0 +1,7 @@
+pub mod Bounds
+pub mod Walks
+pub mod Rooms
+pub mod Decoding
+pub mod Cases
+pub mod Chunks
+pub mod Kept

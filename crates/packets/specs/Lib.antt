@@ -1,0 +1,5 @@
+pub mod Frames
+pub mod Queue
+pub mod Inside
+pub mod Examples
+pub mod Promises
