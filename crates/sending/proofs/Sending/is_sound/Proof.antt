@@ -1,0 +1,17 @@
+-- `sending::Sending::is_sound` meets its contract. Assumes nothing.
+use Rattle.choice.specs.Pick.{callees}
+use Rattle.sending.specs.Sending.{soundSending}
+use borrow.Author.Needs.{needs}
+use Rattle.sending.proofs.Sending.is_sound.Statement.{statement}
+use Rattle.sending.proofs.Sending.is_sound.Tie as tie
+
+returns : tie.Need-returns
+unfolding soundSending
+returns c = search callees
+
+returns-2 : tie.Need-returns-2
+unfolding soundSending
+returns-2 c = search callees
+
+pub is-sound-spec : {M : Type 1} → statement M
+is-sound-spec = tie.close (tie.spec (λ c κs. search needs) returns (λ c κs. search needs) returns-2)
