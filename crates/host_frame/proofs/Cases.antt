@@ -1,0 +1,57 @@
+-- The cases of a frame from the host: each from the tests on the way to it. Assumes nothing.
+use Prim.Native.Nat.{ℕ, _≤_, _<_}
+use mathlib.Core.Bool.{true, false}
+use mathlib.Core.Path.{_≡_, sym, ap, _∙_}
+use mathlib.Core.List.{List}
+use lib.ListN.{length, replicate}
+use borrow.Author.Tests.{eq-eqb, ne-eqb, lt-ltb, le-ltb}
+use Rattle.choice.specs.Pick.{pick}
+use Rattle.kiss_read.specs.declared.PortRead.{PortRead}
+use Rattle.kiss_read.specs.declared.CommandRead.{CommandRead}
+use Rattle.kiss_read.specs.declared.Decoded.{Decoded}
+use Rattle.kiss_read.specs.Read.{portRead, commandRead, decoded}
+use Rattle.packets.specs.Queue.{STORE as PACKETS}
+use Rattle.streams.specs.Queue.{STORE as STREAMS}
+use Rattle.host_frame.specs.declared.Host.{Host}
+use Rattle.host_frame.specs.declared.Setting.{Setting}
+use Rattle.host_frame.specs.declared.FrameAnswer.the-variants.{Done, WrongStore, OutOfBounds}
+use Rattle.host_frame.specs.declared.FrameTaken.{FrameTaken}
+use Rattle.host_frame.specs.Host.{soundHost, settingFrom, settingIn, byCommand, obeyedOn, byPort, obeyed, answered, frameTaken}
+
+-- the setting that a payload stands for
+pub setting-as : (frame room : List ℕ) {k : Decoded} (v : Decoded) → (k, room) ≡ decoded frame (replicate 1 0) → k ≡ v → settingFrom v room ≡ settingIn frame
+unfolding settingIn
+setting-as frame room v e t = ap (λ (d : Decoded). settingFrom d room) (sym t) ∙ ap (λ (p : Decoded × List ℕ). settingFrom (p .0) (p .1)) e
+
+module _ (h : Host) (frame packets streams : List ℕ) where
+  -- what the port that was found makes of a frame
+  pub port-as : {k : PortRead} (v : PortRead) → k ≡ portRead frame → k ≡ v → byPort v h frame packets streams ≡ obeyed h frame packets streams
+  unfolding obeyed
+  port-as v e t = ap (λ (p : PortRead). byPort p h frame packets streams) (sym t ∙ e)
+
+  module _ (port : ℕ) where
+    pub other-port : 2 < port → (h, packets, streams) ≡ obeyedOn port h frame packets streams
+    unfolding obeyedOn pick
+    other-port n = rw (lt-ltb 2 port n)
+
+    pub command-as : {k : CommandRead} (v : CommandRead) → port ≤ 2 → k ≡ commandRead frame → k ≡ v → byCommand v port h frame packets streams ≡ obeyedOn port h frame packets streams
+    unfolding obeyedOn pick
+    command-as v n e t = rw (le-ltb 2 port n) (ap (λ (p : CommandRead). byCommand p port h frame packets streams) (sym t ∙ e))
+
+  module _ {x : FrameTaken} where
+    pub packets-wrong : x ≡ answered WrongStore (h, packets, streams) .0 → (length packets ≡ PACKETS → ⊥) → (x, packets, streams) ≡ frameTaken h frame packets streams
+    unfolding frameTaken pick
+    packets-wrong e n = rw (ne-eqb (length packets) PACKETS n) (λ t. (e t, packets, streams))
+
+    pub streams-wrong : x ≡ answered WrongStore (h, packets, streams) .0 → length packets ≡ PACKETS → (length streams ≡ STREAMS → ⊥) → (x, packets, streams) ≡ frameTaken h frame packets streams
+    unfolding frameTaken pick
+    streams-wrong e p n = rw (eq-eqb (length packets) PACKETS p, ne-eqb (length streams) STREAMS n) (λ t. (e t, packets, streams))
+
+    pub unsound : x ≡ answered OutOfBounds (h, packets, streams) .0 → length packets ≡ PACKETS → length streams ≡ STREAMS → soundHost h ≡ false
+        → (x, packets, streams) ≡ frameTaken h frame packets streams
+    unfolding frameTaken pick
+    unsound e p q s = rw (eq-eqb (length packets) PACKETS p, eq-eqb (length streams) STREAMS q, s) (λ t. (e t, packets, streams))
+
+  pub taken : length packets ≡ PACKETS → length streams ≡ STREAMS → soundHost h ≡ true → answered Done (obeyed h frame packets streams) ≡ frameTaken h frame packets streams
+  unfolding frameTaken pick
+  taken p q s = rw (eq-eqb (length packets) PACKETS p, eq-eqb (length streams) STREAMS q, s)
