@@ -7,7 +7,6 @@ use lib.Dec.{eqb}
 use lib.ListN.{length}
 use Rattle.choice.specs.Pick.{pick, and}
 use Rattle.channel.specs.declared.Channel.{Channel}
-use Rattle.channel.specs.declared.Accessed.{Accessed}
 use Rattle.channel.specs.declared.AccessAnswer.{AccessAnswer}
 use Rattle.channel.specs.declared.AccessAnswer.the-variants.{Sends, Waits, OutOfBounds as NoAccess}
 use Rattle.channel.specs.Access.{soundChannel, accessed}
