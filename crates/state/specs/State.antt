@@ -6,6 +6,8 @@ use Rattle.choice.specs.Pick.{pick}
 use Rattle.state.specs.declared.State.{State}
 use Rattle.state.specs.declared.Reception.{Reception}
 use Rattle.state.specs.declared.Reception.the-variants.{Nothing, Acquiring, Stream, Packet}
+use Rattle.state.specs.declared.Transmission.{Transmission}
+use Rattle.state.specs.declared.Transmission.the-variants.{Receiving, Stream as InStream, StreamSent, Packet as InPacket, Ending}
 use Rattle.state.specs.declared.State.the-variants.{Idle, RxAcquiringStream, RxStream, RxPacket, TxStream, TxStreamSentEndOfStream, TxPacket, TxEnding, TxEndingAtTime}
 
 -- PTT is on exactly in the five transmit states
@@ -31,6 +33,18 @@ receptionOf TxStreamSentEndOfStream = Nothing
 receptionOf TxPacket = Nothing
 receptionOf TxEnding = Nothing
 receptionOf (TxEndingAtTime end) = Nothing
+
+-- what is being sent in a state
+abbrev pub transmissionOf : State → Transmission
+transmissionOf Idle = Receiving
+transmissionOf (RxAcquiringStream mask) = Receiving
+transmissionOf (RxStream expected) = Receiving
+transmissionOf (RxPacket count) = Receiving
+transmissionOf TxStream = InStream
+transmissionOf TxStreamSentEndOfStream = StreamSent
+transmissionOf TxPacket = InPacket
+transmissionOf TxEnding = Ending
+transmissionOf (TxEndingAtTime end) = Ending
 
 -- the latest end: the clock's limit and 2^32 samples
 abbrev pub LASTEND : ℕ

@@ -1,6 +1,6 @@
 // What the TNC is doing, with the names of m17core's tnc.rs, and how the clock ends a transmission.
 ghost use mathlib.Core.Path.{_≡_};
-ghost use Rattle.state.specs.State.{transmits, receptionOf, soundState, timeReached, endingAt};
+ghost use Rattle.state.specs.State.{transmits, receptionOf, transmissionOf, soundState, timeReached, endingAt};
 
 // The bytes that go with a reception stand in a store of the caller's: the LSF, or its LICH segments, and the packet.
 pub enum State {
@@ -25,6 +25,18 @@ pub enum Reception {
     Acquiring(u8),
     Stream(u16),
     Packet(usize),
+}
+
+// What is being sent.
+pub enum Transmission {
+    // Nothing is: PTT is off, whether something is being received or not.
+    Receiving,
+    Stream,
+    // The stream's last frame was given; its end of transmission comes next.
+    StreamSent,
+    Packet,
+    // The end of transmission was given.
+    Ending,
 }
 
 impl State {
@@ -58,6 +70,22 @@ impl State {
             State::TxPacket => Reception::Nothing,
             State::TxEnding => Reception::Nothing,
             State::TxEndingAtTime(_) => Reception::Nothing,
+        }
+    }
+
+    pub fn transmission(self) -> Transmission
+        ensures { λ r. ⌜ r ≡ transmissionOf self ⌝ }
+    {
+        match self {
+            State::Idle => Transmission::Receiving,
+            State::RxAcquiringStream(_) => Transmission::Receiving,
+            State::RxStream(_) => Transmission::Receiving,
+            State::RxPacket(_) => Transmission::Receiving,
+            State::TxStream => Transmission::Stream,
+            State::TxStreamSentEndOfStream => Transmission::StreamSent,
+            State::TxPacket => Transmission::Packet,
+            State::TxEnding => Transmission::Ending,
+            State::TxEndingAtTime(_) => Transmission::Ending,
         }
     }
 

@@ -1,0 +1,4 @@
+pub mod Cases
+pub mod Callees
+pub mod Outcomes
+pub mod Kept

@@ -1,0 +1,2 @@
+pub mod Modulator
+pub mod Promises
