@@ -1,9 +1,9 @@
--- `tnc_air::Radio::is_sound` meets its contract. Assumes nothing.
+-- `radio::Radio::is_sound` meets its contract. Assumes nothing.
 use Rattle.choice.specs.Pick.{callees}
-use Rattle.tnc_air.specs.Heard.{soundRadio}
+use Rattle.radio.specs.Radio.{soundRadio}
 use borrow.Author.Needs.{needs}
-use Rattle.tnc_air.proofs.Radio.is_sound.Statement.{statement}
-use Rattle.tnc_air.proofs.Radio.is_sound.Tie as tie
+use Rattle.radio.proofs.Radio.is_sound.Statement.{statement}
+use Rattle.radio.proofs.Radio.is_sound.Tie as tie
 
 returns : tie.Need-returns
 unfolding soundRadio

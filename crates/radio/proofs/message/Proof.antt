@@ -1,9 +1,9 @@
--- `tnc_air::message` meets its contract. Assumes nothing.
+-- `radio::message` meets its contract. Assumes nothing.
 use mathlib.Core.Path.{ap, sym}
-use Rattle.tnc_air.specs.Heard.{messageOf}
+use Rattle.radio.specs.Inside.{messageOf}
 use borrow.Author.Needs.{needs}
-use Rattle.tnc_air.proofs.message.Statement.{statement}
-use Rattle.tnc_air.proofs.message.Tie as tie
+use Rattle.radio.proofs.message.Statement.{statement}
+use Rattle.radio.proofs.message.Tie as tie
 
 returns : tie.Need-returns
 returns c = ap messageOf (sym (c .before .built .given .1))
