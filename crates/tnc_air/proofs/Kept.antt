@@ -1,51 +1,37 @@
 -- The promises of specs/Promises.antt are kept. Assumes nothing.
-use Prim.Native.Nat.{ℕ, _+_, _-_, _*_, _≤_}
-use mathlib.Core.Bool.{Bool, true, false, false≢true}
+use Prim.Native.Nat.{ℕ, _+_, _*_, _≤_}
 use mathlib.Core.Logic.{_≢_}
 use mathlib.Core.Path.{_≡_, refl, sym, ap, _∙_, subst}
-use mathlib.Core.List.{List, _++_}
+use mathlib.Core.List.{List}
 use native.Mathlib.Omega.{arith}
 use lib.Dec.{eqb, ltb}
 use lib.ListN.{length, take, drop, length-take}
-use lib.Seq.{sets, sets-eq, length-sets, length-take-le, take-at}
+use lib.Seq.{length-take-le}
 use borrow.Author.Tests.{le-leb, ltb-true, ltb-false}
-use Rattle.choice.specs.Pick.{pick, pick-all, and, and-fst, and-snd, and-both}
-use Rattle.store.specs.Room.{over, placed}
-use Rattle.store.proofs.Runs.{put-front}
+use Rattle.choice.specs.Pick.{pick-all, and-snd, and-both}
+use Rattle.store.proofs.Places.{placed-length}
 use Rattle.protocol.specs.Lsf.{part, fieldOf, modeBits}
 use Rattle.protocol.specs.Kinds.{modeOf}
 use Rattle.protocol.specs.declared.PacketFrameCounter.{PacketFrameCounter}
 use Rattle.protocol.specs.declared.PacketFrameCounter.the-variants.{Frame as Counted, FinalFrame as Final}
 use Rattle.protocol.specs.declared.lsf.Mode.{Mode}
 use Rattle.protocol.specs.declared.lsf.Mode.the-variants.{Packet, Stream}
-use Rattle.kiss_build.specs.Build.{Building, fullPacket, streamSetup, frameOf}
-use Rattle.kiss_build.specs.Promises.{Accepted}
+use Rattle.kiss_build.specs.Build.{fullPacket, streamSetup, frameOf}
 use Rattle.kiss_build.proofs.Kept.{built-at-most-1713}
-use Rattle.outgoing.specs.declared.Outgoing.{Outgoing}
-use Rattle.outgoing.specs.Message.{soundMessage, left}
-use Rattle.state.specs.declared.State.the-variants.{RxStream, RxPacket}
 use Rattle.state.specs.declared.Reception.{Reception}
 use Rattle.state.specs.declared.Reception.the-variants.{Nothing, Acquiring as Segments, Stream as InStream, Packet as InPacket}
-use Rattle.state.specs.State.{transmits, receptionOf, soundState}
-use Rattle.tnc_air.specs.declared.Radio.{Radio}
-use Rattle.tnc_air.specs.declared.AirAnswer.{AirAnswer}
-use Rattle.tnc_air.specs.declared.AirAnswer.the-variants.{Done, WrongStore, OutOfBounds}
-use Rattle.tnc_air.specs.declared.Heard.{Heard}
-use Rattle.tnc_air.specs.Heard.{RX, MESSAGE, soundRadio, answered, begun, idle, placeOf, collectedAfter, collectedIn, collected, completed, finishedAfter, finishedIn, finished, counted, unlessSending, lsfHeard, packetHeard, airNumber}
-use Rattle.tnc_air.specs.Promises.{Box, AirFrame, lsf, packet, leftBy, lsfAt, Sound, RefusedKeepsAll, SendingHearsNothing, SoundStaysSound, Receiving, PacketBegins, PacketLsfClears, StreamBegins, StreamLsfIsTold}
-use Rattle.tnc_air.proofs.Told.{setup-accepted, packet-accepted}
-use Rattle.tnc_air.proofs.Cases.{sending, listens}
+use Rattle.state.specs.State.{receptionOf}
+use Rattle.radio.specs.declared.Radio.{Radio}
+use Rattle.radio.specs.declared.AirAnswer.the-variants.{Done}
+use Rattle.radio.specs.declared.Heard.{Heard}
+use Rattle.radio.specs.Radio.{soundRadio, airNumber}
+use Rattle.tnc_air.specs.Heard.{begun, idle, placeOf, collectedAfter, collectedIn, completed, finishedAfter, finishedIn, finished, counted, lsfHeard, packetHeard}
+use Rattle.radio.specs.Box.{Box, leftBy, Sound, Receiving}
+use Rattle.tnc_air.specs.Promises.{lsf, packet, lsfAt, RefusedKeepsAll, SendingHearsNothing, SoundStaysSound, PacketBegins, PacketLsfClears, StreamBegins, StreamLsfIsTold}
+use Rattle.radio.proofs.Messages.{setup-accepted, packet-accepted, length-over, told-sound, left-over}
+use Rattle.radio.proofs.Kept.{listened-to, each}
+use Rattle.radio.proofs.Kept.{sending-hears-nothing as nothing}
 use Rattle.tnc_air.proofs.Packets.{count-in}
-
--- what holds of each outcome of a frame holds of what comes of it
-pub each : (P : Heard × List ℕ × List ℕ → Type 0) (r : Radio) (rx out : List ℕ) (h : Heard × List ℕ × List ℕ)
-    → ((a : AirAnswer) → P (answered a r, rx, out)) → (transmits (r .state) ≡ false → P h) → P (unlessSending r rx out h)
-unfolding unlessSending
-each P r rx out h kept f =
-    pick-all P (eqb (length rx) RX) _ _
-    (λ t. pick-all P (eqb (length out) MESSAGE) _ _
-    (λ u. pick-all P (soundRadio r) _ _ (λ v. pick-all P (transmits (r .state)) _ _ (λ w. kept Done) f) (λ v. kept OutOfBounds)) (λ u. kept WrongStore))
-    (λ t. kept WrongStore)
 
 -- what a frame left is as it was, or it was answered 0
 Fair : Box → Heard × List ℕ × List ℕ → Type 0
@@ -81,23 +67,15 @@ counted-fair (Final len) x payload =
 
 pub refused-keeps-all : RefusedKeepsAll
 unfolding lsfHeard packetHeard Fair
-refused-keeps-all x (lsf bytes) = each (Fair x) (x .radio) (x .rx) (x .out) _ (λ a n. refl) (λ t. begun-fair (modeOf (fieldOf modeBits bytes)) x bytes)
-refused-keeps-all x (packet frame) = each (Fair x) (x .radio) (x .rx) (x .out) _ (λ a n. refl) (λ t. counted-fair (frame .counter) x (frame .payload))
+refused-keeps-all x (lsf bytes) = each (Fair x) x _ (λ a n. refl) (λ t. begun-fair (modeOf (fieldOf modeBits bytes)) x bytes)
+refused-keeps-all x (packet frame) = each (Fair x) x _ (λ a n. refl) (λ t. counted-fair (frame .counter) x (frame .payload))
 
 pub sending-hears-nothing : SendingHearsNothing
 unfolding lsfHeard packetHeard
-sending-hears-nothing x (lsf bytes) s on = sym (sending (x .radio) (x .rx) (x .out) _ refl (s .its-rx) (s .its-out) (s .its-state) on)
-sending-hears-nothing x (packet frame) s on = sym (sending (x .radio) (x .rx) (x .out) _ refl (s .its-rx) (s .its-out) (s .its-state) on)
+sending-hears-nothing x (lsf bytes) s on = nothing x _ s on
+sending-hears-nothing x (packet frame) s on = nothing x _ s on
 
 -- ---- the bounds
-
-length-over : (xs d : List ℕ) → length xs ≤ length d → length (over xs d) ≡ length d
-length-over xs d h = ap length (sym (put-front d xs h)) ∙ length-sets d 0 xs
-
--- the message that a builder makes is within its bounds
-told-sound : (b : Building) → Accepted b → soundMessage (record { len = length (frameOf b); read = 0 }) ≡ true
-unfolding soundMessage
-told-sound b ok = and-both (le-leb 0 (length (frameOf b)) (omega arith)) (le-leb (length (frameOf b)) MESSAGE (built-at-most-1713 b ok))
 
 begun-sound : (m : Mode) (x : Box) (bytes : List ℕ) → length bytes ≡ 30 → Sound x → Sound (leftBy (begun m (x .radio) bytes (x .rx) (x .out)))
 unfolding soundRadio
@@ -120,9 +98,6 @@ idle-sound : (x : Box) → Sound x → Sound (leftBy (idle (x .radio), x .rx, x 
 unfolding soundRadio
 idle-sound x s = record { its-rx = s .its-rx; its-out = s .its-out; its-state = and-both refl (and-snd _ _ (s .its-state)) }
 
-length-placed : (p d : List ℕ) (at : ℕ) → at + length p ≤ length d → length (placed p d at) ≡ length d
-length-placed p d at h = ap length (sym (sets-eq p d at h)) ∙ length-sets d at p
-
 collected-sound : (x : Box) (index count : ℕ) (payload : List ℕ) → length payload ≡ 25 → Sound x
     → Sound (leftBy (collectedAfter (x .radio) count index payload (x .rx) .0, collectedAfter (x .radio) count index payload (x .rx) .1, x .out))
 unfolding collectedAfter soundRadio
@@ -131,7 +106,7 @@ collected-sound x index count payload e s =
     (λ t. pick-all (λ (h : Heard × List ℕ). Sound (leftBy (h .0, h .1, x .out))) (ltb index 32) _ _
     (λ u. let k = ltb-true index 32 u in
     record {
-      its-rx = length-placed payload (x .rx) (placeOf index) (omega (arith, e, s .its-rx, k)) ∙ s .its-rx;
+      its-rx = placed-length payload (x .rx) (placeOf index) (omega (arith, e, s .its-rx, k)) ∙ s .its-rx;
       its-out = s .its-out;
       its-state = and-both (le-leb (index + 1) 32 (omega (arith, k))) (and-snd _ _ (s .its-state));
     })
@@ -150,7 +125,7 @@ unfolding finishedAfter soundRadio
 told-packet-sound x count len payload c l e s =
     let p = take len payload in let k = length-take-le len payload (omega (arith, e, l)) in
     let whole = completed count len payload (x .rx) in
-    let full = length-placed p (x .rx) (placeOf count) (omega (arith, k, s .its-rx, c, l)) ∙ s .its-rx in
+    let full = placed-length p (x .rx) (placeOf count) (omega (arith, k, s .its-rx, c, l)) ∙ s .its-rx in
     let ok = packet-accepted (part 0 30 whole) (part 30 (25 * count + len) whole) (length-take-le 30 whole (omega (arith, full)))
     (omega (arith, length-take (25 * count + len) (drop 30 whole), c, l)) in
     let b = fullPacket (part 0 30 whole) (part 30 (25 * count + len) whole) in
@@ -176,25 +151,19 @@ counted-sound (Final len) x payload e s =
 pub sound-stays-sound : SoundStaysSound
 unfolding lsfHeard packetHeard
 sound-stays-sound x (lsf bytes) e s =
-    each (λ h. Sound (leftBy h)) (x .radio) (x .rx) (x .out) _ (λ a. s) (λ off. begun-sound (modeOf (fieldOf modeBits bytes)) x bytes e s)
+    each (λ h. Sound (leftBy h)) x _ (λ a. s) (λ off. begun-sound (modeOf (fieldOf modeBits bytes)) x bytes e s)
 sound-stays-sound x (packet frame) e s =
-    each (λ h. Sound (leftBy h)) (x .radio) (x .rx) (x .out) _ (λ a. s) (λ off. counted-sound (frame .counter) x (frame .payload) e s)
+    each (λ h. Sound (leftBy h)) x _ (λ a. s) (λ off. counted-sound (frame .counter) x (frame .payload) e s)
 
 -- ---- an LSF that is listened to
 
 pub heard : (x : Box) (bytes : List ℕ) (m : Mode) → Receiving x → modeOf (fieldOf modeBits bytes) ≡ m → lsfAt x bytes ≡ begun m (x .radio) bytes (x .rx) (x .out)
 unfolding lsfHeard
 heard x bytes m g e =
-    sym (listens (x .radio) (x .rx) (x .out) _ (g .sound .its-rx) (g .sound .its-out) (g .sound .its-state) (g .not-sending))
-    ∙ ap (λ (k : Mode). begun k (x .radio) bytes (x .rx) (x .out)) e
+    listened-to x _ g ∙ ap (λ (k : Mode). begun k (x .radio) bytes (x .rx) (x .out)) e
 
 pub packet-lsf-clears : PacketLsfClears
 packet-lsf-clears x bytes g e m = subst (λ h. PacketBegins x (leftBy h) bytes) (sym (heard x bytes Packet g m)) (record { its-state = refl; its-message = refl })
-
--- what there is to read of a message that stands at the store's start
-pub left-over : (f d : List ℕ) → left (record { len = length f; read = 0 }) (over f d) ≡ f
-unfolding left
-left-over f d = take-at f (drop (length f) d) (length f - 0) (omega arith)
 
 pub stream-lsf-is-told : StreamLsfIsTold
 stream-lsf-is-told x bytes g e m =

@@ -11,10 +11,11 @@ use Rattle.state.specs.declared.Reception.{Reception}
 use Rattle.state.specs.declared.Reception.the-variants.{Packet as InPacket}
 use Rattle.state.proofs.Bounds.{count-bound}
 use Rattle.state.specs.State.{receptionOf}
-use Rattle.tnc_air.specs.declared.Radio.{Radio}
-use Rattle.tnc_air.specs.declared.AirAnswer.the-variants.{Done, OutOfRange as TooLarge}
-use Rattle.tnc_air.specs.declared.Heard.{Heard}
-use Rattle.tnc_air.specs.Heard.{soundRadio, answered, idle, placeOf, collectedAfter, collectedIn, collected, finishedIn, finished}
+use Rattle.radio.specs.declared.Radio.{Radio}
+use Rattle.radio.specs.declared.AirAnswer.the-variants.{OutOfRange as TooLarge}
+use Rattle.radio.specs.declared.Heard.{Heard}
+use Rattle.radio.specs.Radio.{soundRadio, answered, turned}
+use Rattle.tnc_air.specs.Heard.{idle, placeOf, collectedAfter, collectedIn, collected, finishedIn, finished}
 
 module _ (r : Radio) (count index : ℕ) (payload rx : List ℕ) where
   pub out-of-order : {x : Heard} → x ≡ idle r → (index ≡ count → ⊥) → (x, rx) ≡ collectedAfter r count index payload rx
@@ -25,10 +26,10 @@ module _ (r : Radio) (count index : ℕ) (payload rx : List ℕ) where
   unfolding collectedAfter pick
   too-many e p n = rw (eq-eqb index count p, le-ltb index 32 n) (λ t. (e t, rx))
 
-  pub next-one : {e : List ℕ} → index ≡ count → index < 32 → e ≡ placed payload rx (placeOf index)
-      → (answered Done (record { state = RxPacket (index + 1); outgoing = r .outgoing }), e) ≡ collectedAfter r count index payload rx
+  pub next-one : {x : Heard} {e : List ℕ} → x ≡ turned (RxPacket (index + 1)) r → index ≡ count → index < 32 → e ≡ placed payload rx (placeOf index)
+      → (x, e) ≡ collectedAfter r count index payload rx
   unfolding collectedAfter pick
-  next-one p n e = rw (eq-eqb index count p, lt-ltb index 32 n) (λ t. (answered Done (record { state = RxPacket (index + 1); outgoing = r .outgoing }), e t))
+  next-one f p n e = rw (eq-eqb index count p, lt-ltb index 32 n) (λ t. (f t, e t))
 
 -- what the reception that was found makes of a frame
 pub collected-as : (r : Radio) (index : ℕ) (payload rx : List ℕ) {k v : Reception} → k ≡ receptionOf (r .state) → k ≡ v → collectedIn v r index payload rx ≡ collected r index payload rx

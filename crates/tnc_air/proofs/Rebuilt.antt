@@ -1,30 +1,29 @@
 -- A packet is rebuilt from its frames. Assumes nothing.
 use Prim.Native.Nat.{ℕ, _+_, _*_, _≤_, _<_}
-use mathlib.Core.Bool.{false}
 use mathlib.Core.Path.{_≡_, refl, sym, ap, _∙_, subst}
 use mathlib.Core.List.{List, [], _∷_, _++_, append-assoc, append-nil}
 use native.Mathlib.Omega.{arith}
 use lib.ListN.{length, take, drop, length-append}
 use lib.Seq.{length-take-le, take-at, drop-at}
-use Rattle.store.specs.Room.{over, placed}
-use Rattle.protocol.specs.Lsf.{part, fieldOf, modeBits}
-use Rattle.protocol.specs.Kinds.{modeOf}
+use Rattle.store.specs.Room.{placed}
+use Rattle.protocol.specs.Lsf.{part}
 use Rattle.protocol.specs.declared.PacketFrame.{PacketFrame}
 use Rattle.protocol.specs.declared.PacketFrameCounter.the-variants.{Frame as Counted, FinalFrame as Final}
 use Rattle.protocol.specs.declared.lsf.Mode.the-variants.{Packet}
 use Rattle.kiss_build.specs.Build.{fullPacket, frameOf}
-use Rattle.outgoing.specs.Message.{left}
-use Rattle.state.specs.declared.State.the-variants.{Idle, RxPacket}
+use Rattle.state.specs.declared.State.the-variants.{RxPacket}
 use Rattle.state.specs.declared.Reception.{Reception}
-use Rattle.state.specs.declared.Reception.the-variants.{Packet as InPacket}
 use Rattle.state.specs.State.{transmits, receptionOf}
-use Rattle.tnc_air.specs.declared.AirAnswer.the-variants.{Done}
-use Rattle.tnc_air.specs.declared.Heard.{Heard}
-use Rattle.tnc_air.specs.Heard.{answered, placeOf, completed, collectedIn, finishedAfter, finishedIn, finished, packetTold, packetHeard, counted, begun}
-use Rattle.tnc_air.specs.Promises.{Box, AirFrame, lsf, packet, leftBy, lsfAt, heardAt, Sound, Receiving, after, afterAll, numbered, lastOf, joined, All25, ToldPacket, PacketIsRebuilt}
-use Rattle.tnc_air.proofs.Cases.{listens}
+use Rattle.radio.specs.declared.AirAnswer.the-variants.{Done}
+use Rattle.radio.specs.declared.Heard.{Heard}
+use Rattle.radio.specs.Radio.{answered}
+use Rattle.tnc_air.specs.Heard.{placeOf, completed, collectedIn, finishedAfter, packetHeard, counted}
+use Rattle.radio.specs.Box.{Box, leftBy, Sound}
+use Rattle.tnc_air.specs.Promises.{AirFrame, lsf, packet, heardAt, after, afterAll, numbered, lastOf, joined, All25, ToldPacket, PacketIsRebuilt}
+use Rattle.radio.proofs.Messages.{left-over}
+use Rattle.radio.proofs.Kept.{listened-to}
 use Rattle.tnc_air.proofs.Packets.{next-one, finished-as}
-use Rattle.tnc_air.proofs.Kept.{heard, left-over, sound-stays-sound}
+use Rattle.tnc_air.proofs.Kept.{heard, sound-stays-sound}
 
 -- so many frames have come: the store begins with the LSF and their bytes
 record Holding (x : Box) (bytes got : List ℕ) (k : ℕ) : Type 0 where
@@ -53,7 +52,7 @@ module _ (x : Box) (bytes got : List ℕ) (k : ℕ) (h : Holding x bytes got k) 
   -- the frame is listened to
   taken : (f : PacketFrame) → heardAt x (packet f) ≡ counted (f .counter) (x .radio) (f .payload) (x .rx) (x .out)
   unfolding packetHeard
-  taken f = sym (listens (x .radio) (x .rx) (x .out) _ (h .sound .its-rx) (h .sound .its-out) (h .sound .its-state) (ap transmits (h .its-state)))
+  taken f = listened-to x _ (record { sound = h .sound; not-sending = ap transmits (h .its-state) })
 
   -- one more frame
   module _ (p : List ℕ) (e : length p ≡ 25) (n : k < 32) where
@@ -66,7 +65,7 @@ module _ (x : Box) (bytes got : List ℕ) (k : ℕ) (h : Holding x bytes got k) 
     came : heardAt x frame ≡ (grown .0, grown .1, x .out)
     unfolding grown
     came =
-        let c = ap (λ (m : Reception). collectedIn m (x .radio) k p (x .rx)) (ap receptionOf (h .its-state)) ∙ sym (next-one (x .radio) k k p (x .rx) refl n refl) in
+        let c = ap (λ (m : Reception). collectedIn m (x .radio) k p (x .rx)) (ap receptionOf (h .its-state)) ∙ sym (next-one (x .radio) k k p (x .rx) refl refl n refl) in
         taken (record { payload = p; counter = Counted k }) ∙ ap (λ (g : Heard × List ℕ). (g .0, g .1, x .out)) c
 
     grows : Holding (after x frame) bytes (got ++ p) (k + 1)

@@ -1,10 +1,9 @@
--- What the TNC does with a frame from the air, from document 01's "From the air", "Answer numbers" and "Bounds for 8". Assumes nothing.
+-- What the TNC does with an LSF and with a packet frame from the air, from document 01's "From the air" and "Answer numbers". Assumes nothing.
 use Prim.Native.Nat.{ℕ, _+_, _*_}
-use mathlib.Core.Bool.{Bool}
 use mathlib.Core.List.{List}
 use lib.Dec.{eqb, ltb}
-use lib.ListN.{length, take}
-use Rattle.choice.specs.Pick.{pick, and}
+use lib.ListN.{take}
+use Rattle.choice.specs.Pick.{pick}
 use Rattle.store.specs.Room.{over, placed}
 use Rattle.protocol.specs.Lsf.{part, fieldOf, modeBits}
 use Rattle.protocol.specs.Kinds.{modeOf}
@@ -13,49 +12,19 @@ use Rattle.protocol.specs.declared.PacketFrameCounter.{PacketFrameCounter}
 use Rattle.protocol.specs.declared.PacketFrameCounter.the-variants.{Frame as Counted, FinalFrame as Final}
 use Rattle.protocol.specs.declared.lsf.Mode.{Mode}
 use Rattle.protocol.specs.declared.lsf.Mode.the-variants.{Packet, Stream}
-use Rattle.kiss_build.specs.declared.Built.{Built}
-use Rattle.kiss_build.specs.declared.Built.the-variants.{Frame, PayloadTooBig, LsfWrongSize, OutOfRange, NoRoom}
-use Rattle.kiss_build.specs.Build.{Building, fullPacket, streamSetup, frameOf}
-use Rattle.outgoing.specs.declared.Outgoing.{Outgoing}
-use Rattle.outgoing.specs.Message.{noMessage, soundMessage}
-use Rattle.state.specs.declared.State.{State}
+use Rattle.kiss_build.specs.Build.{fullPacket, streamSetup}
 use Rattle.state.specs.declared.State.the-variants.{Idle, RxStream, RxPacket}
 use Rattle.state.specs.declared.Reception.{Reception}
 use Rattle.state.specs.declared.Reception.the-variants.{Nothing, Acquiring as Segments, Stream as InStream, Packet as InPacket}
-use Rattle.state.specs.State.{transmits, receptionOf, soundState}
-use Rattle.tnc_air.specs.declared.Radio.{Radio}
-use Rattle.tnc_air.specs.declared.AirAnswer.{AirAnswer}
-use Rattle.tnc_air.specs.declared.AirAnswer.the-variants.{Done, OutOfRange as TooLarge, WrongStore, OutOfBounds}
-use Rattle.tnc_air.specs.declared.Heard.{Heard}
-
--- the lengths of the two stores: an LSF of 30 bytes and a packet of 825; the longest message
-abbrev pub RX : ℕ
-RX = 855
-
-abbrev pub MESSAGE : ℕ
-MESSAGE = 1713
-
-unfoldable pub soundRadio : Radio → Bool
-soundRadio r = and (soundState (r .state)) (soundMessage (r .outgoing))
-
-abbrev pub answered : AirAnswer → Radio → Heard
-answered a r = record { answer = a; radio = r }
-
--- the message that a builder's answer stands for
-abbrev pub messageOf : Built → Outgoing
-messageOf (Frame n) = record { len = n; read = 0 }
-messageOf PayloadTooBig = noMessage
-messageOf LsfWrongSize = noMessage
-messageOf OutOfRange = noMessage
-messageOf NoRoom = noMessage
-
--- a new message to the host replaces one not fully read
-abbrev pub toHost : State → Building → List ℕ → Heard × List ℕ
-toHost s b out = (answered Done (record { state = s; outgoing = record { len = length (frameOf b); read = 0 } }), over (frameOf b) out)
+use Rattle.state.specs.State.{receptionOf}
+use Rattle.radio.specs.declared.Radio.{Radio}
+use Rattle.radio.specs.declared.AirAnswer.the-variants.{OutOfRange as TooLarge}
+use Rattle.radio.specs.declared.Heard.{Heard}
+use Rattle.radio.specs.Radio.{answered, turned, toHost, unlessSending}
 
 -- a packet begins: its LSF is kept, no frame of it has come, and a message that waits goes on waiting
 abbrev pub packetBegun : Radio → List ℕ → List ℕ → Heard × List ℕ
-packetBegun r lsf rx = (answered Done (record { state = RxPacket 0; outgoing = r .outgoing }), over lsf rx)
+packetBegun r lsf rx = (turned (RxPacket 0) r, over lsf rx)
 
 -- a stream begins: its LSF goes to the host, and any number may come first
 abbrev pub streamBegun : List ℕ → List ℕ → Heard × List ℕ
@@ -69,7 +38,7 @@ begun Stream r lsf rx out = (streamBegun lsf out .0, rx, streamBegun lsf out .1)
 -- ---- a packet's frames
 
 abbrev pub idle : Radio → Heard
-idle r = answered Done (record { state = Idle; outgoing = r .outgoing })
+idle r = turned Idle r
 
 -- where the frame after so many stands: behind the LSF, 25 bytes for each
 abbrev pub placeOf : ℕ → ℕ
@@ -79,7 +48,7 @@ placeOf count = 30 + 25 * count
 unfoldable pub collectedAfter : Radio → ℕ → ℕ → List ℕ → List ℕ → Heard × List ℕ
 collectedAfter r count index payload rx =
     pick (eqb index count)
-    (pick (ltb index 32) (answered Done (record { state = RxPacket (index + 1); outgoing = r .outgoing }), placed payload rx (placeOf index)) (idle r, rx))
+    (pick (ltb index 32) (turned (RxPacket (index + 1)) r, placed payload rx (placeOf index)) (idle r, rx))
     (idle r, rx)
 
 -- outside of a packet's reception it goes to Idle
@@ -118,26 +87,10 @@ abbrev pub counted : PacketFrameCounter → Radio → List ℕ → List ℕ → 
 counted (Counted index) r payload rx out = (collected r index payload rx .0, collected r index payload rx .1, out)
 counted (Final len) r payload rx out = finished r len payload rx out
 
--- ---- any frame
-
--- while PTT is on, frames are ignored
-unfoldable pub unlessSending : Radio → List ℕ → List ℕ → Heard × List ℕ × List ℕ → Heard × List ℕ × List ℕ
-unlessSending r rx out h =
-    pick (eqb (length rx) RX)
-    (pick (eqb (length out) MESSAGE)
-    (pick (soundRadio r) (pick (transmits (r .state)) (answered Done r, rx, out) h) (answered OutOfBounds r, rx, out))
-    (answered WrongStore r, rx, out))
-    (answered WrongStore r, rx, out)
+-- ---- any frame, unless PTT is on
 
 unfoldable pub lsfHeard : Radio → List ℕ → List ℕ → List ℕ → Heard × List ℕ × List ℕ
 lsfHeard r lsf rx out = unlessSending r rx out (begun (modeOf (fieldOf modeBits lsf)) r lsf rx out)
 
 unfoldable pub packetHeard : Radio → PacketFrame → List ℕ → List ℕ → Heard × List ℕ × List ℕ
 packetHeard r frame rx out = unlessSending r rx out (counted (frame .counter) r (frame .payload) rx out)
-
--- document 01's numbers for the answers
-abbrev pub airNumber : AirAnswer → ℕ
-airNumber Done = 0
-airNumber TooLarge = 6
-airNumber WrongStore = 7
-airNumber OutOfBounds = 8

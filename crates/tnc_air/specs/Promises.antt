@@ -1,7 +1,7 @@
 -- What is promised of frames from the air, from document 01. Each is proved in proofs/Kept.antt, the last in proofs/Rebuilt.antt. Assumes nothing.
 use Prim.{Unit}
 use Prim.Native.Nat.{ℕ, _+_, _≤_}
-use mathlib.Core.Bool.{true, false}
+use mathlib.Core.Bool.{true}
 use mathlib.Core.Logic.{_≢_}
 use mathlib.Core.Path.{_≡_}
 use mathlib.Core.List.{List, [], _∷_, _++_}
@@ -15,19 +15,11 @@ use Rattle.kiss_build.specs.Build.{fullPacket, streamSetup, frameOf}
 use Rattle.outgoing.specs.Message.{left}
 use Rattle.state.specs.declared.State.the-variants.{Idle, RxStream, RxPacket}
 use Rattle.state.specs.State.{transmits}
-use Rattle.tnc_air.specs.declared.Radio.{Radio}
-use Rattle.tnc_air.specs.declared.AirAnswer.the-variants.{Done}
-use Rattle.tnc_air.specs.declared.Heard.{Heard}
-use Rattle.tnc_air.specs.Heard.{RX, MESSAGE, soundRadio, answered, lsfHeard, packetHeard, airNumber}
-
--- a record and its two stores, as the last call left them
-pub record Box : Type 0 where
-  pub radio : Radio
-  pub rx : List ℕ
-  pub out : List ℕ
-
-abbrev pub leftBy : Heard × List ℕ × List ℕ → Box
-leftBy h = record { radio = h .0 .radio; rx = h .1; out = h .2 }
+use Rattle.radio.specs.declared.AirAnswer.the-variants.{Done}
+use Rattle.radio.specs.declared.Heard.{Heard}
+use Rattle.radio.specs.Radio.{answered, airNumber}
+use Rattle.radio.specs.Box.{Box, leftBy, Sound, Receiving}
+use Rattle.tnc_air.specs.Heard.{lsfHeard, packetHeard}
 
 abbrev pub lsfAt : Box → List ℕ → Heard × List ℕ × List ℕ
 lsfAt x lsf = lsfHeard (x .radio) lsf (x .rx) (x .out)
@@ -46,12 +38,6 @@ abbrev pub Typed : AirFrame → Type 0
 Typed (lsf bytes) = length bytes ≡ 30
 Typed (packet frame) = length (frame .payload) ≡ 25
 
--- the stores have their lengths and the record is within its bounds
-pub record Sound (x : Box) : Type 0 where
-  pub its-rx : length (x .rx) ≡ RX
-  pub its-out : length (x .out) ≡ MESSAGE
-  pub its-state : soundRadio (x .radio) ≡ true
-
 -- with any answer but 0 nothing has changed
 abbrev pub RefusedKeepsAll : Type 0
 RefusedKeepsAll = (x : Box) (f : AirFrame) → airNumber (heardAt x f .0 .answer) ≢ 0 → leftBy (heardAt x f) ≡ x
@@ -63,11 +49,6 @@ SendingHearsNothing = (x : Box) (f : AirFrame) → Sound x → transmits (x .rad
 -- a sound box stays sound
 abbrev pub SoundStaysSound : Type 0
 SoundStaysSound = (x : Box) (f : AirFrame) → Typed f → Sound x → Sound (leftBy (heardAt x f))
-
--- a box that receives
-pub record Receiving (x : Box) : Type 0 where
-  pub sound : Sound x
-  pub not-sending : transmits (x .radio .state) ≡ false
 
 -- whatever went before, after a packet's LSF no frame of it has come, and the message that waits is as it was
 pub record PacketBegins (x y : Box) (lsf : List ℕ) : Type 0 where

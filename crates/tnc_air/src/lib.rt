@@ -1,195 +1,117 @@
-// What the TNC does with frames from the air, as m17core's tnc.rs has it. What is being received stands in a store of 855 bytes that the caller lends, the LSF and behind
-// it the packet; the message to the host in one of 1,713 bytes.
-use kiss_build::Built;
+// What the TNC does with LSF and packet frames from the air, as m17core's tnc.rs has it. A packet that is being received stands in a store of 855 bytes that the caller
+// lends, its LSF first; the message to the host in one of 1,713 bytes.
 use kiss_build::new_full_packet;
 use kiss_build::new_stream_setup;
-use outgoing::Outgoing;
 use protocol::LsfFrame;
 use protocol::Mode;
 use protocol::PacketFrame;
 use protocol::PacketFrameCounter;
+use radio::AirAnswer;
+use radio::Heard;
+use radio::Hears;
+use radio::Radio;
+use radio::told;
 use state::Reception;
 use state::State;
 ghost use Prim.Native.Nat.{_≤_};
 ghost use mathlib.Core.Bool.{true};
 ghost use mathlib.Core.Path.{_≡_};
 ghost use lib.ListN.{length};
-ghost use Rattle.tnc_air.specs.Heard.{RX, MESSAGE, soundRadio, messageOf, packetBegun, streamBegun, lsfHeard, idle, collected, collectedAfter, packetTold, finishedAfter, finished, packetHeard};
+ghost use Rattle.radio.specs.Radio.{RX, MESSAGE, soundRadio};
+ghost use Rattle.tnc_air.specs.Heard.{packetBegun, streamBegun, lsfHeard, collected, collectedAfter, packetTold, finishedAfter, finished, packetHeard};
 
-pub const RX_STORE_LEN: usize = 855;
-
-pub const MESSAGE_STORE_LEN: usize = 1713;
-
-pub struct Radio {
-    pub state: State,
-    pub outgoing: Outgoing,
-}
-
-pub enum AirAnswer {
-    Done,
-    OutOfRange,
-    WrongStore,
-    OutOfBounds,
-}
-
-pub struct Heard {
-    pub answer: AirAnswer,
-    pub radio: Radio,
-}
-
-impl Radio {
-    pub fn is_sound(self) -> bool
-        ensures { λ r. ⌜ r ≡ soundRadio self ⌝ }
-    {
-        let state = self.state;
-        if !state.is_sound() {
-            return false;
-        }
-        self.outgoing.is_sound()
-    }
-
-    // A new LSF clears what went before. While we send, it is our own.
-    pub fn handle_lsf(self, lsf: LsfFrame, rx: &mut [u8], out: &mut [u8]) -> Heard
-        ensures { λ r. ⌜ (r, now (rx .exit), now (out .exit)) ≡ lsfHeard self (lsf .0) (now (rx .entry)) (now (out .entry)) ⌝ }
-    {
-        if rx.len() != RX_STORE_LEN {
-            return self.answered(AirAnswer::WrongStore);
-        }
-        if out.len() != MESSAGE_STORE_LEN {
-            return self.answered(AirAnswer::WrongStore);
-        }
-        if !self.is_sound() {
-            return self.answered(AirAnswer::OutOfBounds);
-        }
-        let state = self.state;
-        if state.ptt() {
-            return self.answered(AirAnswer::Done);
-        }
-        let bytes = lsf.0;
-        match lsf.mode() {
-            Mode::Packet => self.begin_packet(bytes, rx),
+// A new LSF clears what went before. While we send, it is our own.
+pub fn handle_lsf(radio: Radio, lsf: LsfFrame, rx: &mut [u8], out: &mut [u8]) -> Heard
+    ensures { λ r. ⌜ (r, now (rx .exit), now (out .exit)) ≡ lsfHeard radio (lsf .0) (now (rx .entry)) (now (out .entry)) ⌝ }
+{
+    let bytes = lsf.0;
+    match radio.hears(rx, out) {
+        Hears::Answer(answer) => radio.answered(answer),
+        Hears::Frame => match lsf.mode() {
+            Mode::Packet => begin_packet(radio, bytes, rx),
             Mode::Stream => begin_stream(bytes, out),
-        }
+        },
     }
+}
 
-    // The packet goes to the host with its last frame, be its length 0 too. A frame that does not follow makes the radio idle.
-    pub fn handle_packet(self, frame: PacketFrame, rx: &mut [u8], out: &mut [u8]) -> Heard
-        ensures { λ r. ⌜ (r, now (rx .exit), now (out .exit)) ≡ packetHeard self frame (now (rx .entry)) (now (out .entry)) ⌝ }
-    {
-        if rx.len() != RX_STORE_LEN {
-            return self.answered(AirAnswer::WrongStore);
-        }
-        if out.len() != MESSAGE_STORE_LEN {
-            return self.answered(AirAnswer::WrongStore);
-        }
-        if !self.is_sound() {
-            return self.answered(AirAnswer::OutOfBounds);
-        }
-        let state = self.state;
-        if state.ptt() {
-            return self.answered(AirAnswer::Done);
-        }
-        let payload = frame.payload;
-        let counter = frame.counter;
-        match counter {
-            PacketFrameCounter::Frame { index } => self.collect(index, payload, rx),
-            PacketFrameCounter::FinalFrame { payload_len } => self.finish(
+// The packet goes to the host with its last frame, be its length 0 too. A frame that does not follow makes the radio idle.
+pub fn handle_packet(radio: Radio, frame: PacketFrame, rx: &mut [u8], out: &mut [u8]) -> Heard
+    ensures { λ r. ⌜ (r, now (rx .exit), now (out .exit)) ≡ packetHeard radio frame (now (rx .entry)) (now (out .entry)) ⌝ }
+{
+    let payload = frame.payload;
+    let counter = frame.counter;
+    match radio.hears(rx, out) {
+        Hears::Answer(answer) => radio.answered(answer),
+        Hears::Frame => match counter {
+            PacketFrameCounter::Frame { index } => collect(radio, index, payload, rx),
+            PacketFrameCounter::FinalFrame { payload_len } => finish(
+                radio,
                 payload_len,
                 payload,
                 rx,
                 out,
             ),
-        }
+        },
     }
+}
 
-    fn answered(self, answer: AirAnswer) -> Heard
-        ensures { λ r. ⌜ r ≡ record { answer = answer; radio = self } ⌝ }
-    {
-        Heard {
-            answer: answer,
-            radio: self,
-        }
+// A frame that is not a packet's last.
+fn collect(radio: Radio, index: usize, payload: [u8; 25], rx: &mut [u8]) -> Heard
+    requires { ⌜ length (now rx) ≡ RX ⌝ }
+    ensures { λ r. ⌜ (r, now (rx .exit)) ≡ collected radio index payload (now (rx .entry)) ⌝ }
+{
+    let state = radio.state;
+    match state.reception() {
+        Reception::Nothing => radio.turned(State::Idle),
+        Reception::Acquiring(_) => radio.turned(State::Idle),
+        Reception::Stream(_) => radio.turned(State::Idle),
+        Reception::Packet(count) => collect_after(radio, count, index, payload, rx),
     }
+}
 
-    fn idle(self) -> Heard
-        ensures { λ r. ⌜ r ≡ idle self ⌝ }
-    {
-        let outgoing = self.outgoing;
-        Heard {
-            answer: AirAnswer::Done,
-            radio: Radio {
-                state: State::Idle,
-                outgoing: outgoing,
-            },
-        }
+fn collect_after(
+    radio: Radio,
+    count: usize,
+    index: usize,
+    payload: [u8; 25],
+    rx: &mut [u8],
+) -> Heard
+    requires { ⌜ length (now rx) ≡ RX ⌝ }
+    ensures { λ r. ⌜ (r, now (rx .exit)) ≡ collectedAfter radio count index payload (now (rx .entry)) ⌝ }
+{
+    if index != count {
+        return radio.turned(State::Idle);
     }
+    if 32 <= index {
+        return radio.turned(State::Idle);
+    }
+    store::copy_in(&payload, rx, 30 + 25 * index);
+    radio.turned(State::RxPacket(index + 1))
+}
 
-    // A frame that is not a packet's last.
-    fn collect(self, index: usize, payload: [u8; 25], rx: &mut [u8]) -> Heard
-        requires { ⌜ length (now rx) ≡ RX ⌝ }
-        ensures { λ r. ⌜ (r, now (rx .exit)) ≡ collected self index payload (now (rx .entry)) ⌝ }
-    {
-        let state = self.state;
-        match state.reception() {
-            Reception::Nothing => self.idle(),
-            Reception::Acquiring(_) => self.idle(),
-            Reception::Stream(_) => self.idle(),
-            Reception::Packet(count) => self.collect_after(count, index, payload, rx),
-        }
+// A packet's last frame.
+fn finish(radio: Radio, len: usize, payload: [u8; 25], rx: &mut [u8], out: &mut [u8]) -> Heard
+    requires { ⌜ (soundRadio radio ≡ true) × (length (now rx) ≡ RX) × (length (now out) ≡ MESSAGE) ⌝ }
+    ensures { λ r. ⌜ (r, now (rx .exit), now (out .exit)) ≡ finished radio len payload (now (rx .entry)) (now (out .entry)) ⌝ }
+{
+    if 25 < len {
+        return radio.answered(AirAnswer::OutOfRange);
     }
+    let state = radio.state;
+    match state.reception() {
+        Reception::Nothing => radio.turned(State::Idle),
+        Reception::Acquiring(_) => radio.turned(State::Idle),
+        Reception::Stream(_) => radio.turned(State::Idle),
+        Reception::Packet(count) => finish_after(count, len, payload, rx, out),
+    }
+}
 
-    fn collect_after(self, count: usize, index: usize, payload: [u8; 25], rx: &mut [u8]) -> Heard
-        requires { ⌜ length (now rx) ≡ RX ⌝ }
-        ensures { λ r. ⌜ (r, now (rx .exit)) ≡ collectedAfter self count index payload (now (rx .entry)) ⌝ }
-    {
-        if index != count {
-            return self.idle();
-        }
-        if 32 <= index {
-            return self.idle();
-        }
-        store::copy_in(&payload, rx, 30 + 25 * index);
-        let outgoing = self.outgoing;
-        Heard {
-            answer: AirAnswer::Done,
-            radio: Radio {
-                state: State::RxPacket(index + 1),
-                outgoing: outgoing,
-            },
-        }
-    }
-
-    // A packet's last frame.
-    fn finish(self, len: usize, payload: [u8; 25], rx: &mut [u8], out: &mut [u8]) -> Heard
-        requires { ⌜ (soundRadio self ≡ true) × (length (now rx) ≡ RX) × (length (now out) ≡ MESSAGE) ⌝ }
-        ensures { λ r. ⌜ (r, now (rx .exit), now (out .exit)) ≡ finished self len payload (now (rx .entry)) (now (out .entry)) ⌝ }
-    {
-        if 25 < len {
-            return self.answered(AirAnswer::OutOfRange);
-        }
-        let state = self.state;
-        match state.reception() {
-            Reception::Nothing => self.idle(),
-            Reception::Acquiring(_) => self.idle(),
-            Reception::Stream(_) => self.idle(),
-            Reception::Packet(count) => finish_after(count, len, payload, rx, out),
-        }
-    }
-
-    fn begin_packet(self, lsf: [u8; 30], rx: &mut [u8]) -> Heard
-        requires { ⌜ length (now rx) ≡ RX ⌝ }
-        ensures { λ r. ⌜ (r, now (rx .exit)) ≡ packetBegun self lsf (now (rx .entry)) ⌝ }
-    {
-        store::copy_in(&lsf, rx, 0);
-        let outgoing = self.outgoing;
-        Heard {
-            answer: AirAnswer::Done,
-            radio: Radio {
-                state: State::RxPacket(0),
-                outgoing: outgoing,
-            },
-        }
-    }
+fn begin_packet(radio: Radio, lsf: [u8; 30], rx: &mut [u8]) -> Heard
+    requires { ⌜ length (now rx) ≡ RX ⌝ }
+    ensures { λ r. ⌜ (r, now (rx .exit)) ≡ packetBegun radio lsf (now (rx .entry)) ⌝ }
+{
+    store::copy_in(&lsf, rx, 0);
+    radio.turned(State::RxPacket(0))
 }
 
 // A packet's last frame, after so many others: the packet goes to the host.
@@ -208,14 +130,7 @@ fn tell_packet(rx: &[u8], len: usize, out: &mut [u8]) -> Heard
     ensures { λ r. ⌜ (r, now (out .exit)) ≡ packetTold len (now (rx .entry)) (now (out .entry)) ⌝ }
 {
     let built = new_full_packet(&rx[..30], &rx[30..30 + len], out);
-    let outgoing = message(built);
-    Heard {
-        answer: AirAnswer::Done,
-        radio: Radio {
-            state: State::Idle,
-            outgoing: outgoing,
-        },
-    }
+    told(State::Idle, built)
 }
 
 fn begin_stream(lsf: [u8; 30], out: &mut [u8]) -> Heard
@@ -223,25 +138,5 @@ fn begin_stream(lsf: [u8; 30], out: &mut [u8]) -> Heard
     ensures { λ r. ⌜ (r, now (out .exit)) ≡ streamBegun lsf (now (out .entry)) ⌝ }
 {
     let built = new_stream_setup(&lsf, out);
-    let outgoing = message(built);
-    Heard {
-        answer: AirAnswer::Done,
-        radio: Radio {
-            state: State::RxStream(0),
-            outgoing: outgoing,
-        },
-    }
-}
-
-// A frame of ours always fits into the store, so there always is one.
-fn message(built: Built) -> Outgoing
-    ensures { λ r. ⌜ r ≡ messageOf built ⌝ }
-{
-    match built {
-        Built::Frame(len) => Outgoing { len: len, read: 0 },
-        Built::PayloadTooBig => Outgoing::new(),
-        Built::LsfWrongSize => Outgoing::new(),
-        Built::OutOfRange => Outgoing::new(),
-        Built::NoRoom => Outgoing::new(),
-    }
+    told(State::RxStream(0), built)
 }

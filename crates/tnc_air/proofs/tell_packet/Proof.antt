@@ -8,7 +8,7 @@ use lib.Seq.{length-take-le}
 use Rattle.protocol.specs.Lsf.{part}
 use Rattle.kiss_build.specs.Build.{fullPacket, built}
 use Rattle.state.specs.declared.State.the-variants.{Idle}
-use Rattle.tnc_air.proofs.Told.{told, packet-accepted}
+use Rattle.radio.proofs.Messages.{told, packet-accepted}
 use Rattle.tnc_air.proofs.tell_packet.Statement.{statement}
 use Rattle.tnc_air.proofs.tell_packet.Tie as tie
 
@@ -24,7 +24,7 @@ returns c =
     let out = s .args .out .now in let m : 30 + n - 30 ≡ n = omega arith in
     let short : length (part 30 n rx) ≤ 825 = omega (arith, length-take n (drop 30 rx), s .pre .0) in
     told Idle (fullPacket (part 0 30 rx) (part 30 n rx)) out _ _ _ (packet-accepted (take 30 rx) (part 30 n rx) (its-lsf s) short) (s .pre .2)
-    (k .new-full-packet .ensures ∙ ap (λ (i : ℕ). built (fullPacket (take 30 rx) (part 30 i rx)) out) m) (c .message .ensures)
+    (k .new-full-packet .ensures ∙ ap (λ (i : ℕ). built (fullPacket (take 30 rx) (part 30 i rx)) out) m) (c .told .ensures)
 
 pub tell-packet-spec : {M : Type 1} → statement M
 tell-packet-spec = tie.close (tie.spec slice-aggregate-new-full-packet (λ c. search needs) (λ c. search needs) (λ c. search needs) (λ c. search needs) (λ c κs. search needs) (λ c κs. search needs) (λ c. search needs) returns)

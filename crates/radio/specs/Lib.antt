@@ -1,0 +1,4 @@
+pub mod Radio
+pub mod Inside
+pub mod Box
+pub mod Promises

@@ -1,0 +1,54 @@
+-- The cases of a stream frame that is listened to: each from the tests on the way to it. Assumes nothing.
+use Prim.Native.Nat.{ℕ, _+_, _≤_, _<_}
+use mathlib.Core.Bool.{true, false}
+use mathlib.Core.Path.{_≡_, refl, sym, ap, _∙_}
+use mathlib.Core.List.{List}
+use borrow.Author.Tests.{lt-ltb, le-ltb}
+use Rattle.choice.specs.Pick.{pick, and-fst}
+use Rattle.protocol.specs.declared.StreamFrame.{StreamFrame}
+use Rattle.kiss_build.specs.Build.{streamData}
+use Rattle.state.specs.declared.State.{State}
+use Rattle.state.specs.declared.Reception.{Reception}
+use Rattle.state.specs.declared.Reception.the-variants.{Acquiring}
+use Rattle.state.specs.State.{receptionOf}
+use Rattle.state.proofs.Bounds.{mask-bound}
+use Rattle.radio.specs.declared.Radio.{Radio}
+use Rattle.radio.specs.declared.AirAnswer.the-variants.{OutOfRange}
+use Rattle.radio.specs.declared.Heard.{Heard}
+use Rattle.radio.specs.Radio.{soundRadio, answered, toHost}
+use Rattle.tnc_stream.specs.Stream.{behind, restarted, followed, receivedIn, ranged}
+
+module _ (r : Radio) (f : StreamFrame) (rx out : List ℕ) where
+  -- ---- in a stream
+  module _ (expected : ℕ) where
+    pub backward : {h : Heard} {last : List ℕ} → (h, last) ≡ restarted r f rx → f .«frame_number» < expected → (h, last, out) ≡ followed r expected f rx out
+    unfolding followed pick
+    backward e n = rw (lt-ltb (f .«frame_number») expected n) (λ t. (e t .0, e t .1, out))
+
+    pub forward : (s : State) {h : Heard} {last : List ℕ} → (h, last) ≡ toHost s (streamData f) out → behind f ≡ s → expected ≤ f .«frame_number» → (h, rx, last) ≡ followed r expected f rx out
+    unfolding followed pick
+    forward s e b n = let p = e ∙ ap (λ (k : State). toHost k (streamData f) out) (sym b) in rw (le-ltb (f .«frame_number») expected n) (λ t. (p t .0, rx, p t .1))
+
+  -- ---- in any state
+  pub index-over : {h : Heard} → h ≡ answered OutOfRange r → 5 < f .«lich_idx» → (h, rx, out) ≡ ranged r f rx out
+  unfolding ranged pick
+  index-over e n = rw (lt-ltb 5 (f .«lich_idx») n) (λ t. (e t, rx, out))
+
+  module _ (i : f .«lich_idx» ≤ 5) where
+    pub number-over : {h : Heard} → h ≡ answered OutOfRange r → 32767 < f .«frame_number» → (h, rx, out) ≡ ranged r f rx out
+    unfolding ranged pick
+    number-over e n = rw (le-ltb 5 (f .«lich_idx») i, lt-ltb 32767 (f .«frame_number») n) (λ t. (e t, rx, out))
+
+    -- what the reception that was found makes of it
+    pub received-as : {k v : Reception} → f .«frame_number» ≤ 32767 → k ≡ receptionOf (r .state) → k ≡ v → receivedIn v r f rx out ≡ ranged r f rx out
+    unfolding ranged pick
+    received-as n e t = rw (le-ltb 5 (f .«lich_idx») i, le-ltb 32767 (f .«frame_number») n) (ap (λ (m : Reception). receivedIn m r f rx out) (sym t ∙ e))
+
+-- the mask of a sound state
+pub mask-in : (r : Radio) (mask : ℕ) {k : Reception} → soundRadio r ≡ true → k ≡ receptionOf (r .state) → k ≡ Acquiring mask → mask < 64
+unfolding soundRadio
+mask-in r mask e k t = mask-bound (r .state) mask (and-fst _ _ e) (sym k ∙ t)
+
+pub at-the-end : (f : StreamFrame) (s : State) → f .«end_of_stream» ≡ true → behind f ≡ pick true (behind f) s
+unfolding pick
+at-the-end f s e = refl

@@ -1,0 +1,161 @@
+-- The promises of specs/Promises.antt are kept. Assumes nothing.
+use Prim.Native.Nat.{ℕ, _+_, _≤_, _<_}
+use mathlib.Core.Bool.{Bool, true}
+use mathlib.Core.Logic.{_≢_}
+use mathlib.Core.Path.{_≡_, refl, sym, ap, _∙_, subst}
+use mathlib.Core.List.{List}
+use native.Mathlib.Omega.{arith}
+use borrow.Author.Tests.{lt-ltb, le-leb, ltb-false}
+use lib.Dec.{ltb, leb}
+use lib.ListN.{length, take, drop}
+use lib.Seq.{length-take-le, take-at}
+use Rattle.choice.specs.Pick.{pick-yes, pick-all, and-snd, and-both}
+use Rattle.store.specs.Room.{over}
+use Rattle.protocol.specs.declared.StreamFrame.{StreamFrame}
+use Rattle.protocol.specs.declared.lich.LichCollection.{LichCollection}
+use Rattle.protocol.specs.Lich.{newCollection}
+use Rattle.kiss_build.specs.Build.{streamSetup, streamData}
+use Rattle.state.specs.declared.State.{State}
+use Rattle.state.specs.declared.State.the-variants.{Idle, RxAcquiringStream, RxStream, RxPacket}
+use Rattle.state.specs.declared.Reception.{Reception}
+use Rattle.state.specs.declared.Reception.the-variants.{Nothing, Acquiring, Stream, Packet}
+use Rattle.state.specs.State.{transmits, receptionOf, soundState}
+use Rattle.radio.specs.declared.Radio.{Radio}
+use Rattle.radio.specs.declared.AirAnswer.the-variants.{Done, OutOfRange}
+use Rattle.radio.specs.declared.Heard.{Heard}
+use Rattle.radio.specs.Radio.{RX, soundRadio, answered, airNumber}
+use Rattle.radio.specs.Box.{Box, leftBy, Sound, Receiving}
+use Rattle.radio.specs.Promises.{Told}
+use Rattle.radio.proofs.Messages.{setup-accepted, data-accepted, length-over}
+use Rattle.radio.proofs.Kept.{listened-to, each, to-host-is-told, told-stays-sound}
+use Rattle.radio.proofs.Kept.{sending-hears-nothing as nothing}
+use Rattle.tnc_stream.specs.Stream.{collectionAt, withFrame, collecting, complete, restarted, acquiredWith, acquired, behind, followed, receivedIn, ranged, streamHeard}
+use Rattle.tnc_stream.specs.Promises.{streamAt, after, Typed, InRange, RefusedKeepsAll, SendingHearsNothing, IndexOver5IsRefused, NumberOver32767IsRefused, SoundStaysSound, StreamFrameIsTold, Collects, Restarts, idle, packet, backward, Restarted, BackwardRestarts}
+use Rattle.tnc_stream.proofs.Segments.{frame-mask, frame-thirty}
+use Rattle.tnc_stream.proofs.Frames.{forward, index-over, number-over, received-as, mask-in}
+use Rattle.tnc_stream.proofs.Frames.{backward as goes-back}
+
+-- ---- refusals
+
+-- what a frame left is as it was, or it was answered 0
+Fair : Box → Heard × List ℕ × List ℕ → Type 0
+Fair x h = airNumber (h .0 .answer) ≢ 0 → leftBy h ≡ x
+
+received-done : (k : Reception) (r : Radio) (f : StreamFrame) (rx out : List ℕ) → receivedIn k r f rx out .0 .answer ≡ Done
+unfolding restarted acquired acquiredWith followed
+received-done Nothing r f rx out = refl
+received-done (Acquiring mask) r f rx out = pick-all (λ (h : Heard × List ℕ). h .0 .answer ≡ Done) (complete (withFrame f (collectionAt mask rx))) _ _ (λ t. refl) (λ t. refl)
+received-done (Stream expected) r f rx out = pick-all (λ (h : Heard × List ℕ × List ℕ). h .0 .answer ≡ Done) (ltb (f .«frame_number») expected) _ _ (λ t. refl) (λ t. refl)
+received-done (Packet count) r f rx out = refl
+
+ranged-fair : (x : Box) (f : StreamFrame) → Fair x (ranged (x .radio) f (x .rx) (x .out))
+unfolding Fair ranged
+ranged-fair x f =
+    pick-all (Fair x) (ltb 5 (f .«lich_idx»)) _ _ (λ t n. refl)
+    (λ t. pick-all (Fair x) (ltb 32767 (f .«frame_number»)) _ _ (λ u n. refl)
+    (λ u n. absurd (n (ap airNumber (received-done (receptionOf (x .radio .state)) (x .radio) f (x .rx) (x .out))))))
+
+pub refused-keeps-all : RefusedKeepsAll
+unfolding streamHeard Fair
+refused-keeps-all x f = each (Fair x) x _ (λ a n. refl) (λ g. ranged-fair x f)
+
+pub sending-hears-nothing : SendingHearsNothing
+unfolding streamHeard
+sending-hears-nothing x f s on = nothing x _ s on
+
+-- a frame that is listened to
+listened : (x : Box) (f : StreamFrame) → Receiving x → streamAt x f ≡ ranged (x .radio) f (x .rx) (x .out)
+unfolding streamHeard
+listened x f g = listened-to x _ g
+
+pub index-over-5-is-refused : IndexOver5IsRefused
+index-over-5-is-refused x f g n = listened x f g ∙ sym (index-over (x .radio) f (x .rx) (x .out) refl n)
+
+pub number-over-32767-is-refused : NumberOver32767IsRefused
+unfolding ranged
+number-over-32767-is-refused x f g n =
+    listened x f g
+    ∙ pick-all (λ (h : Heard × List ℕ × List ℕ). h ≡ (answered OutOfRange (x .radio), x .rx, x .out)) (ltb 5 (f .«lich_idx»)) _ _ (λ t. refl)
+    (λ t. sym (pick-yes _ (lt-ltb 32767 (f .«frame_number») n) refl))
+
+-- ---- the bounds
+
+-- a box that collects segments
+collecting-sound : (x : Box) (c : LichCollection) → c .mask < 64 → length (c .segments) ≡ 30 → Sound x → Sound (leftBy (collecting (x .radio) c, over (c .segments) (x .rx), x .out))
+unfolding soundRadio
+collecting-sound x c m n s =
+    record {
+      its-rx = length-over (c .segments) (x .rx) (omega (arith, n, s .its-rx)) ∙ s .its-rx;
+      its-out = s .its-out;
+      its-state = and-both (lt-ltb (c .mask) 64 m) (and-snd _ _ (s .its-state));
+    }
+
+module _ (x : Box) (f : StreamFrame) (ty : Typed f) (i : f .«lich_idx» ≤ 5) (s : Sound x) where
+  restarted-sound : Sound (leftBy (restarted (x .radio) f (x .rx) .0, restarted (x .radio) f (x .rx) .1, x .out))
+  unfolding restarted
+  restarted-sound = collecting-sound x (withFrame f newCollection) (frame-mask f newCollection i (omega arith)) (frame-thirty f newCollection i (ty .its-part) refl) s
+
+  acquired-sound : (mask : ℕ) → mask < 64 → Sound (leftBy (acquired (x .radio) mask f (x .rx) (x .out)))
+  unfolding acquired acquiredWith
+  acquired-sound mask m =
+      let c = collectionAt mask (x .rx) in let d = withFrame f c in
+      let n = frame-thirty f c i (ty .its-part) (length-take-le 30 (x .rx) (omega (arith, s .its-rx))) in
+      let k = collecting-sound x d (frame-mask f c i m) n s in
+      pick-all (λ (h : Heard × List ℕ). Sound (leftBy (h .0, over (d .segments) (x .rx), h .1))) (complete d) _ _
+      (λ t. told-stays-sound (RxStream (f .«frame_number» + 1)) (streamSetup (d .segments)) (record { radio = x .radio; rx = over (d .segments) (x .rx); out = x .out })
+      (setup-accepted (d .segments) n) refl (record { its-rx = k .its-rx; its-out = s .its-out; its-state = s .its-state })) (λ t. k)
+
+  followed-sound : (expected : ℕ) → f .«frame_number» ≤ 32767 → Sound (leftBy (followed (x .radio) expected f (x .rx) (x .out)))
+  unfolding followed
+  followed-sound expected n =
+      pick-all (λ h. Sound (leftBy h)) (ltb (f .«frame_number») expected) _ _ (λ t. restarted-sound)
+      (λ t. told-stays-sound (behind f) (streamData f) x (data-accepted f (ty .its-part) (ty .its-data) i n)
+      (pick-all (λ (k : State). soundState k ≡ true) (f .«end_of_stream») _ _ (λ t. refl) (λ t. refl)) s)
+
+  received-sound : (k : Reception) → receptionOf (x .radio .state) ≡ k → f .«frame_number» ≤ 32767 → Sound (leftBy (receivedIn k (x .radio) f (x .rx) (x .out)))
+  received-sound Nothing e n = restarted-sound
+  received-sound (Acquiring mask) e n = acquired-sound mask (mask-in (x .radio) mask (s .its-state) refl e)
+  received-sound (Stream expected) e n = followed-sound expected n
+  received-sound (Packet count) e n = restarted-sound
+
+pub sound-stays-sound : SoundStaysSound
+unfolding streamHeard ranged
+sound-stays-sound x f ty s =
+    each (λ h. Sound (leftBy h)) x _ (λ a. s)
+    (λ g. pick-all (λ h. Sound (leftBy h)) (ltb 5 (f .«lich_idx»)) _ _ (λ t. s)
+    (λ t. pick-all (λ h. Sound (leftBy h)) (ltb 32767 (f .«frame_number»)) _ _ (λ u. s)
+    (λ u. received-sound x f ty (ltb-false 5 _ t) s (receptionOf (x .radio .state)) refl (ltb-false 32767 _ u))))
+
+-- ---- by what is being received
+
+pub received : (x : Box) (f : StreamFrame) {k : Reception} → Receiving x → InRange f → receptionOf (x .radio .state) ≡ k → streamAt x f ≡ receivedIn k (x .radio) f (x .rx) (x .out)
+received x f g i e = listened x f g ∙ sym (received-as (x .radio) f (x .rx) (x .out) (i .its-index) (i .its-number) refl e)
+
+pub stream-frame-is-told : StreamFrameIsTold
+stream-frame-is-told x f expected g i e n =
+    subst (λ h. Told (leftBy h) (behind f) (streamData f))
+    (forward (x .radio) f (x .rx) (x .out) expected (behind f) refl refl n ∙ sym (received x f g i (ap receptionOf e)))
+    (to-host-is-told (behind f) (streamData f) (x .rx) (x .out))
+
+-- acquisition restarts
+pub restarts : (x : Box) (f : StreamFrame) → Receiving x → InRange f → Restarts f (x .radio .state)
+    → streamAt x f ≡ (restarted (x .radio) f (x .rx) .0, restarted (x .radio) f (x .rx) .1, x .out)
+restarts x f g i h = go (x .radio .state) refl h
+  where
+    go : (s : State) → x .radio .state ≡ s → Restarts f s → streamAt x f ≡ (restarted (x .radio) f (x .rx) .0, restarted (x .radio) f (x .rx) .1, x .out)
+    go Idle e idle = received x f g i (ap receptionOf e)
+    go (RxPacket count) e packet = received x f g i (ap receptionOf e)
+    go (RxStream expected) e (backward n) = received x f g i (ap receptionOf e) ∙ sym (goes-back (x .radio) f (x .rx) (x .out) expected refl n)
+
+pub backward-restarts : BackwardRestarts
+unfolding restarted
+backward-restarts x f g ty i h =
+    let c = withFrame f newCollection in
+    subst (λ k. Restarted x (leftBy k) f) (sym (restarts x f g i h))
+    (record {
+      its-collection = record {
+        its-state = refl;
+        its-segments = take-at (c .segments) (drop (length (c .segments)) (x .rx)) 30 (frame-thirty f newCollection (i .its-index) (ty .its-part) refl);
+      };
+      its-message = refl;
+    })

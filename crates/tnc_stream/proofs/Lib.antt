@@ -1,0 +1,3 @@
+pub mod Segments
+pub mod Frames
+pub mod Kept
