@@ -7,7 +7,8 @@ use mathlib.Core.Path.{_≡_, refl, sym, ap, _∙_}
 use native.Mathlib.Omega.{arith}
 use Rattle.choice.specs.Pick.{pick, pick-all, and-both}
 use Rattle.channel.specs.declared.Channel.{Channel}
-use Rattle.channel.specs.declared.AccessAnswer.the-variants.{Sends}
+use Rattle.channel.specs.declared.AccessAnswer.{AccessAnswer}
+use Rattle.channel.specs.declared.AccessAnswer.the-variants.{Sends, Waits, OutOfBounds as NoAccess}
 use Rattle.channel.specs.Access.{soundChannel, accessed}
 use Rattle.channel.proofs.Kept.{sound-stays-sound as channel-sound, carrier-holds-back as carrier-holds}
 use Rattle.state.specs.declared.State.{State}
@@ -33,7 +34,7 @@ use Rattle.tnc_modulator.specs.declared.TxAnswer.{TxAnswer}
 use Rattle.tnc_modulator.specs.declared.TxAnswer.the-variants.{Nothing, Preamble, Stream, EndOfTransmission}
 use Rattle.tnc_modulator.specs.declared.TxRead.{TxRead}
 use Rattle.tnc_modulator.specs.Modulator.{allSound, keyedUp, streamAnswer, afterStream, withStreams, streamRead, streamGiven, packetAnswer, afterPacket, withPackets, packetRead, given, txNumber, kindNumber}
-use Rattle.tnc_modulator.specs.Promises.{Box, readOf, afterwards, afterRead, RefusedKeepsAll, Sound, SoundIsAnswered, SoundStaysSound, PttFollows, PreambleHasTheDelay, CarrierHoldsBack, NothingToSendKeysNothing, LsfBeforePackets, PacketsBegin, Spent, stream-spent, packets-spent, EndOnlyWhenSpent, EndAfterTheLast, NothingAfterTheEnd, QueuesStand, only, UnusedIsZero}
+use Rattle.tnc_modulator.specs.Promises.{Box, readOf, afterwards, afterRead, RefusedKeepsAll, Sound, SoundIsAnswered, SoundStaysSound, PttFollows, PreambleHasTheDelay, CarrierHoldsBack, KeysUp, NothingToSendKeysNothing, LsfBeforePackets, PacketsBegin, Spent, stream-spent, packets-spent, EndOnlyWhenSpent, EndAfterTheLast, NothingAfterTheEnd, QueuesStand, only, UnusedIsZero}
 use Rattle.tnc_modulator.proofs.Cases.{passed as tested}
 use Rattle.tnc_modulator.proofs.Outcomes.{sound-state, sound-sending, sound-packets, sound-streams, sound-channel, Passed, none-waits, held-back, keyed-up, in-stream, stream-over, in-packets, ending, Refusal, wrong-store, out-of-bounds, Given, refused, passed, sound-outcome, outcome}
 
@@ -279,6 +280,24 @@ lsf-before-packets x p e = ap (λ (r : TxRead). r .state) (begins x (its-outcome
 pub packets-begin : PacketsBegin
 unfolding keyedUp pick
 packets-begin x p e = ap (λ (r : TxRead). r .state) (begins x (its-outcome x) e .is) ∙ ap (λ (b : Bool). pick b TxStream TxPacket) p
+
+may : AccessAnswer → Bool
+may Sends = true
+may Waits = false
+may NoAccess = false
+
+pub keys-up : KeysUp
+unfolding keyedUp may
+keys-up x h off w a = by (sound-passed x h)
+  where
+    by : {r : TxRead} → Passes x r → r .answer ≡ Preamble
+    by (none-waits o n) = both w n
+    by (held-back o n b) = both (ap may a) (ap may b)
+    by (keyed-up o n b) = refl
+    by (in-stream f n) = both (ap transmits f) off
+    by (stream-over f) = both (ap transmits f) off
+    by (in-packets f n) = both (ap transmits f) off
+    by (ending on) = both on off
 
 none-wants : (q : Sending) → q .streams .pending ≡ false → isEmpty (q .packets) ≡ true → wantsToSend q ≡ false
 unfolding wantsToSend pick

@@ -6,6 +6,8 @@ use mathlib.Core.Logic.{_≢_}
 use mathlib.Core.Path.{_≡_}
 use lib.ListN.{length}
 use Rattle.channel.specs.declared.Channel.{Channel}
+use Rattle.channel.specs.declared.AccessAnswer.the-variants.{Sends}
+use Rattle.channel.specs.Access.{accessed}
 use Rattle.protocol.specs.declared.lsf.LsfFrame.{LsfFrame}
 use Rattle.protocol.specs.declared.StreamFrame.{StreamFrame}
 use Rattle.protocol.specs.declared.PacketFrame.{PacketFrame}
@@ -16,6 +18,7 @@ use Rattle.packets.specs.declared.ReadAnswer.the-variants.{End}
 use Rattle.packets.specs.Queue.{isEmpty, noFrame as noPiece, readNext as nextPiece}
 use Rattle.streams.specs.Queue.{noLsf, noFrame}
 use Rattle.sending.specs.declared.Sending.{Sending}
+use Rattle.sending.specs.Sending.{wantsToSend}
 use Rattle.tnc_modulator.specs.declared.TxAnswer.{TxAnswer}
 use Rattle.tnc_modulator.specs.declared.TxAnswer.the-variants.{Nothing, Preamble, Lsf, Stream, Packet, EndOfTransmission, WrongStore, OutOfBounds}
 use Rattle.tnc_modulator.specs.declared.TxRead.{TxRead}
@@ -75,6 +78,10 @@ PreambleHasTheDelay = (x : Box) → readOf x .answer ≡ Preamble → readOf x .
 -- while a carrier is heard nothing is begun, but in full duplex
 abbrev pub CarrierHoldsBack : Type 0
 CarrierHoldsBack = (x : Box) → x .channel .carrier ≡ true → x .channel .duplex ≡ false → readOf x .answer ≢ Preamble
+
+-- where something waits to be sent and the channel may be used, a transmission is begun
+abbrev pub KeysUp : Type 0
+KeysUp = (x : Box) → Sound x → transmits (x .state) ≡ false → wantsToSend (x .sending) ≡ true → accessed (x .channel) .answer ≡ Sends → readOf x .answer ≡ Preamble
 
 -- with no LSF pending and no packet waiting nothing is begun, and nothing changes
 abbrev pub NothingToSendKeysNothing : Type 0
