@@ -1,0 +1,2 @@
+pub mod Tnc
+pub mod Promises
