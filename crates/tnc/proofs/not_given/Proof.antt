@@ -1,0 +1,18 @@
+-- `tnc::not_given` meets its contract. Assumes nothing.
+use mathlib.Core.Path.{ap}
+use lib.ListN.{replicate}
+use borrow.Author.Needs.{needs}
+use Rattle.protocol.specs.declared.StreamFrame.{StreamFrame}
+use Rattle.packets.specs.Queue.{noFrame as noPiece}
+use Rattle.streams.specs.Queue.{noLsf}
+use Rattle.tnc.specs.declared.TncTx.{TncTx}
+use Rattle.tnc.proofs.not_given.Statement.{statement}
+use Rattle.tnc.proofs.not_given.Tie as tie
+
+returns : tie.Need-returns
+returns c =
+    let a = c .before .args in
+    λ i. record { answer = a .answer; «tx_delay» = 0; lsf = noLsf; stream = c .no-stream-frame .ensures i; packet = noPiece; tnc = a .tnc; channel = a .channel }
+
+pub not-given-spec : {M : Type 1} → statement M
+not-given-spec = tie.close (tie.spec (λ c κs. search needs) returns)
