@@ -1,13 +1,13 @@
 -- The promises of specs/Promises.antt are kept. Assumes nothing.
 use Prim.Native.Nat.{ℕ, _+_, _≤_, _<_}
-use mathlib.Core.Bool.{Bool, true}
+use mathlib.Core.Bool.{true}
 use mathlib.Core.Logic.{_≢_}
 use mathlib.Core.Path.{_≡_, refl, sym, ap, _∙_, subst}
 use mathlib.Core.List.{List}
 use native.Mathlib.Omega.{arith}
-use borrow.Author.Tests.{lt-ltb, le-leb, ltb-false}
-use lib.Dec.{ltb, leb}
-use lib.ListN.{length, take, drop}
+use borrow.Author.Tests.{lt-ltb, ltb-false}
+use lib.Dec.{ltb}
+use lib.ListN.{length, drop}
 use lib.Seq.{length-take-le, take-at}
 use Rattle.choice.specs.Pick.{pick-yes, pick-all, and-snd, and-both}
 use Rattle.store.specs.Room.{over}
@@ -16,23 +16,23 @@ use Rattle.protocol.specs.declared.lich.LichCollection.{LichCollection}
 use Rattle.protocol.specs.Lich.{newCollection}
 use Rattle.kiss_build.specs.Build.{streamSetup, streamData}
 use Rattle.state.specs.declared.State.{State}
-use Rattle.state.specs.declared.State.the-variants.{Idle, RxAcquiringStream, RxStream, RxPacket}
+use Rattle.state.specs.declared.State.the-variants.{Idle, RxStream, RxPacket}
 use Rattle.state.specs.declared.Reception.{Reception}
 use Rattle.state.specs.declared.Reception.the-variants.{Nothing, Acquiring, Stream, Packet}
-use Rattle.state.specs.State.{transmits, receptionOf, soundState}
+use Rattle.state.specs.State.{receptionOf, soundState}
 use Rattle.radio.specs.declared.Radio.{Radio}
 use Rattle.radio.specs.declared.AirAnswer.the-variants.{Done, OutOfRange}
 use Rattle.radio.specs.declared.Heard.{Heard}
-use Rattle.radio.specs.Radio.{RX, soundRadio, answered, airNumber}
+use Rattle.radio.specs.Radio.{soundRadio, answered, airNumber}
 use Rattle.radio.specs.Box.{Box, leftBy, Sound, Receiving}
 use Rattle.radio.specs.Promises.{Told}
 use Rattle.radio.proofs.Messages.{setup-accepted, data-accepted, length-over}
 use Rattle.radio.proofs.Kept.{listened-to, each, to-host-is-told, told-stays-sound}
 use Rattle.radio.proofs.Kept.{sending-hears-nothing as nothing}
 use Rattle.tnc_stream.specs.Stream.{collectionAt, withFrame, collecting, complete, restarted, acquiredWith, acquired, behind, followed, receivedIn, ranged, streamHeard}
-use Rattle.tnc_stream.specs.Promises.{streamAt, after, Typed, InRange, RefusedKeepsAll, SendingHearsNothing, IndexOver5IsRefused, NumberOver32767IsRefused, SoundStaysSound, StreamFrameIsTold, Collects, Restarts, idle, packet, backward, Restarted, BackwardRestarts}
+use Rattle.tnc_stream.specs.Promises.{streamAt, Typed, InRange, RefusedKeepsAll, SendingHearsNothing, IndexOver5IsRefused, NumberOver32767IsRefused, SoundStaysSound, StreamFrameIsTold, Restarts, idle, packet, backward, Restarted, BackwardRestarts}
 use Rattle.tnc_stream.proofs.Segments.{frame-mask, frame-thirty}
-use Rattle.tnc_stream.proofs.Frames.{forward, index-over, number-over, received-as, mask-in}
+use Rattle.tnc_stream.proofs.Frames.{forward, index-over, received-as, mask-in}
 use Rattle.tnc_stream.proofs.Frames.{backward as goes-back}
 
 -- ---- refusals
