@@ -4,17 +4,17 @@ use mathlib.Core.Bool.{Bool, true, false, false≢true}
 use mathlib.Core.Path.{_≡_, refl, sym, ap, _∙_, subst}
 use mathlib.Core.List.{List, [], _∷_, _++_}
 use native.Mathlib.Omega.{arith}
-use borrow.Author.Tests.{eq-eqb, ne-eqb}
+use borrow.Author.Tests.{lt-leb, eq-eqb, ne-eqb}
 use lib.Dec.{eqb, eqb→eq}
-use lib.ListN.{length, drop}
-use lib.Seq.{take-at}
-use Rattle.choice.specs.Pick.{pick, pick-yes, and}
+use lib.ListN.{replicate}
+use Rattle.choice.specs.Pick.{pick, pick-yes, and, and-both}
 use Rattle.choice.proofs.Table.{below, below-two}
-use Rattle.store.specs.Room.{over}
 use Rattle.crc.specs.Crc.{crcOf}
 use Rattle.protocol.specs.declared.StreamFrame.{StreamFrame}
 use Rattle.protocol.specs.declared.lich.LichCollection.{LichCollection}
-use Rattle.protocol.specs.declared.lich.Assembly.the-variants.{Whole}
+use Rattle.protocol.specs.declared.lich.Assembly.the-variants.{Whole, Missing, OutOfBounds}
+use Rattle.protocol.specs.declared.lich.Assembly.{Assembly}
+use Rattle.protocol.specs.declared.lich.Assembled.{Assembled}
 use Rattle.protocol.specs.Lsf.{bitsAt}
 use Rattle.protocol.specs.Lich.{heard, heardCount, newCollection, withSegment, assembled}
 use Rattle.protocol.specs.Promises.{Segment, isAmong, OfLsf, none, more}
@@ -24,16 +24,13 @@ use Rattle.protocol.proofs.Collected.{Sound as Whole30}
 use Rattle.protocol.proofs.Kept.{any-order-gives-back}
 use Rattle.kiss_build.specs.Build.{streamSetup}
 use Rattle.state.specs.declared.State.the-variants.{RxStream}
-use Rattle.state.specs.State.{transmits, receptionOf}
-use Rattle.radio.specs.declared.Heard.{Heard}
-use Rattle.radio.specs.Radio.{toHost}
-use Rattle.radio.specs.Box.{Box, leftBy, Sound, Receiving}
+use Rattle.state.specs.State.{transmits}
+use Rattle.radio.specs.Box.{Box, Receiving}
 use Rattle.radio.specs.Promises.{Told}
-use Rattle.radio.proofs.Kept.{to-host-is-told}
-use Rattle.tnc_stream.specs.Stream.{withFrame, collecting, acquiredWith, acquired}
-use Rattle.tnc_stream.specs.Promises.{streamAt, after, Typed, InRange, Collects, Brings, afterAll, brought, SixSegmentsGiveTheLsf}
-use Rattle.tnc_stream.proofs.Segments.{frame-mask, frame-thirty, answered-as, right-crc}
-use Rattle.tnc_stream.proofs.Kept.{received, sound-stays-sound, backward-restarts}
+use Rattle.tnc_stream.specs.Stream.{withFrame, complete}
+use Rattle.tnc_stream.specs.Promises.{after, Typed, InRange, Collects, Brings, afterAll, brought, SixSegmentsGiveTheLsf}
+use Rattle.tnc_stream.proofs.Segments.{frame-mask, frame-thirty}
+use Rattle.tnc_stream.proofs.Kept.{sound-stays-sound, acquisition-restarts, collected, told-whole}
 
 -- ---- masks
 
@@ -84,42 +81,41 @@ record Holds (x : Box) (c : LichCollection) : Type 0 where
   collects : Collects x c
   whole : Whole30 c
 
+abbrev wholeOf : List ℕ → Assembled
+wholeOf bytes = record { answer = Whole; bytes = bytes }
+
+abbrev missing : Assembled
+missing = record { answer = Missing; bytes = replicate 30 0 }
+
+abbrev isWhole : Assembly → Type 0
+isWhole Whole = Unit {0}
+isWhole Missing = ⊥
+isWhole OutOfBounds = ⊥
+
+-- six segments and their CRC, from what was assembled
+complete-as : (c : LichCollection) (lsf : List ℕ) → c .mask < 64 → assembled c ≡ wholeOf lsf → crcOf lsf ≡ 0 → (complete c ≡ true) × (c .segments ≡ lsf)
+unfolding assembled pick and
+complete-as c lsf m a z = go (eqb (heardCount (c .mask)) 6) refl (rw (lt-leb 64 (c .mask) m) at a)
+  where
+    go : (t : Bool) → eqb (heardCount (c .mask)) 6 ≡ t → pick t (wholeOf (c .segments)) missing ≡ wholeOf lsf → (complete c ≡ true) × (c .segments ≡ lsf)
+    go true e b = let q = ap (λ (w : Assembled). w .bytes) b in (and-both e (eq-eqb (crcOf (c .segments)) 0 (ap crcOf q ∙ z)), q)
+    go false e b = absurd (subst isWhole (sym (ap (λ (w : Assembled). w .answer) b)) Prim.tt)
+
 module _ (x : Box) (c : LichCollection) (f : StreamFrame) (ty : Typed f) (i : InRange f) (h : Holds x c) where
-  abbrev grown : LichCollection
-  grown = withFrame f c
-
-  grown-whole : Whole30 grown
-  grown-whole = record { small = frame-mask f c (i .its-index) (h .whole .small); thirty = frame-thirty f c (i .its-index) (ty .its-part) (h .whole .thirty) }
-
-  abbrev with-told : Heard × List ℕ → Heard × List ℕ × List ℕ
-  with-told k = (k .0, over (grown .segments) (x .rx), k .1)
-
-  acquires : streamAt x f ≡ with-told (acquiredWith (x .radio) grown (f .«frame_number») (x .out))
-  unfolding acquired
-  acquires =
-      received x f (h .receiving) i (ap receptionOf (h .collects .its-state))
-      ∙ ap (λ (s : List ℕ). let d = withFrame f (record { segments = s; mask = c .mask }) in let k = acquiredWith (x .radio) d (f .«frame_number») (x .out) in (k .0, over (d .segments) (x .rx), k .1)) (h .collects .its-segments)
-
-  -- and not all have been heard
-  grows : (heardCount (grown .mask) ≡ 6 → ⊥) → Holds (after x f) grown
-  unfolding acquiredWith pick and
+  grows : (heardCount (withFrame f c .mask) ≡ 6 → ⊥) → Holds (after x f) (withFrame f c)
+  unfolding and
   grows n =
-      let e : streamAt x f ≡ with-told (collecting (x .radio) grown, x .out) = acquires ∙ rw (ne-eqb (heardCount (grown .mask)) 6 n) in
-      subst (λ k. Holds (leftBy k) grown) (sym e)
-      (record {
-        receiving = record { sound = subst (λ k. Sound (leftBy k)) e (sound-stays-sound x f ty (h .receiving .sound)); not-sending = refl };
-        collects = record { its-state = refl; its-segments = take-at (grown .segments) (drop (length (grown .segments)) (x .rx)) 30 (grown-whole .thirty) };
-        whole = grown-whole;
-      })
+      let r = collected x c f (h .receiving) i (h .collects) ty (rw (ne-eqb (heardCount (withFrame f c .mask)) 6 n)) in
+      record {
+        receiving = record { sound = sound-stays-sound x f ty (h .receiving .sound); not-sending = ap transmits (r .its-collection .its-state) };
+        collects = r .its-collection;
+        whole = record { small = frame-mask f c (i .its-index) (h .whole .small); thirty = frame-thirty f c (i .its-index) (ty .its-part) (h .whole .thirty) };
+      }
 
-  -- and that was the last
-  completes : (lsf : List ℕ) → assembled grown ≡ record { answer = Whole; bytes = lsf } → crcOf lsf ≡ 0 → Told (after x f) (RxStream (f .«frame_number» + 1)) (streamSetup lsf)
+  completes : (lsf : List ℕ) → assembled (withFrame f c) ≡ wholeOf lsf → crcOf lsf ≡ 0 → Told (after x f) (RxStream (f .«frame_number» + 1)) (streamSetup lsf)
   completes lsf a z =
-      let r = x .radio in let n = f .«frame_number» in
-      let w : toHost (RxStream (n + 1)) (streamSetup lsf) (x .out) ≡ acquiredWith r grown n (x .out) =
-      right-crc r grown n (x .out) lsf refl refl z ∙ answered-as r grown n (x .out) (grown-whole .small) (sym a) refl in
-      subst (λ k. Told (leftBy k) (RxStream (n + 1)) (streamSetup lsf)) (ap with-told w ∙ sym acquires)
-      (to-host-is-told (RxStream (n + 1)) (streamSetup lsf) (over (grown .segments) (x .rx)) (x .out))
+      let p = complete-as (withFrame f c) lsf (frame-mask f c (i .its-index) (h .whole .small)) a z in
+      subst (λ (s : List ℕ). Told (after x f) (RxStream (f .«frame_number» + 1)) (streamSetup s)) (p .1) (told-whole x c f (h .receiving) i (h .collects) (p .0))
 
 -- ---- all frames
 
@@ -150,7 +146,7 @@ six-segments-give-the-lsf lsf x first others last n z g s absent present =
     let j = last .frame .«lich_idx» in let k : j < 6 = omega (arith, last .in-range .its-index) in
     let p = not-brought (eqb j (f .«lich_idx»)) (brought j others) absent in
     let new : Whole30 newCollection = record { small = omega arith; thirty = refl } in
-    let r = backward-restarts x f g (first .typed) i s in
+    let r = acquisition-restarts x f g (first .typed) i s in
     let c = withFrame f newCollection in
     let small = frame-mask f newCollection (i .its-index) (new .small) in
     let h : Holds (after x f) c =
