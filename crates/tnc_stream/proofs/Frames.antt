@@ -1,7 +1,7 @@
 -- The cases of a stream frame that is listened to: each from the tests on the way to it. Assumes nothing.
-use Prim.Native.Nat.{ℕ, _+_, _≤_, _<_}
-use mathlib.Core.Bool.{true, false}
-use mathlib.Core.Path.{_≡_, refl, sym, ap, _∙_}
+use Prim.Native.Nat.{ℕ, _≤_, _<_}
+use mathlib.Core.Bool.{true}
+use mathlib.Core.Path.{_≡_, sym, ap, _∙_}
 use mathlib.Core.List.{List}
 use borrow.Author.Tests.{lt-ltb, le-ltb}
 use Rattle.choice.specs.Pick.{pick, and-fst}
@@ -48,7 +48,3 @@ module _ (r : Radio) (f : StreamFrame) (rx out : List ℕ) where
 pub mask-in : (r : Radio) (mask : ℕ) {k : Reception} → soundRadio r ≡ true → k ≡ receptionOf (r .state) → k ≡ Acquiring mask → mask < 64
 unfolding soundRadio
 mask-in r mask e k t = mask-bound (r .state) mask (and-fst _ _ e) (sym k ∙ t)
-
-pub at-the-end : (f : StreamFrame) (s : State) → f .«end_of_stream» ≡ true → behind f ≡ pick true (behind f) s
-unfolding pick
-at-the-end f s e = refl

@@ -1,38 +1,38 @@
 -- The promises of specs/Promises.antt are kept. Assumes nothing.
 use Prim.Native.Nat.{ℕ, _+_, _≤_, _<_}
-use mathlib.Core.Bool.{Bool, true}
+use mathlib.Core.Bool.{true, false}
 use mathlib.Core.Logic.{_≢_}
 use mathlib.Core.Path.{_≡_, refl, sym, ap, _∙_, subst}
 use mathlib.Core.List.{List}
 use native.Mathlib.Omega.{arith}
-use borrow.Author.Tests.{lt-ltb, le-leb, ltb-false}
-use lib.Dec.{ltb, leb}
+use borrow.Author.Tests.{lt-ltb, ltb-false}
+use lib.Dec.{ltb}
 use lib.ListN.{length, take, drop}
 use lib.Seq.{length-take-le, take-at}
-use Rattle.choice.specs.Pick.{pick-yes, pick-all, and-snd, and-both}
+use Rattle.choice.specs.Pick.{pick-yes, pick-no, pick-all, and-snd, and-both}
 use Rattle.store.specs.Room.{over}
 use Rattle.protocol.specs.declared.StreamFrame.{StreamFrame}
 use Rattle.protocol.specs.declared.lich.LichCollection.{LichCollection}
 use Rattle.protocol.specs.Lich.{newCollection}
 use Rattle.kiss_build.specs.Build.{streamSetup, streamData}
 use Rattle.state.specs.declared.State.{State}
-use Rattle.state.specs.declared.State.the-variants.{Idle, RxAcquiringStream, RxStream, RxPacket}
+use Rattle.state.specs.declared.State.the-variants.{Idle, RxStream, RxPacket}
 use Rattle.state.specs.declared.Reception.{Reception}
 use Rattle.state.specs.declared.Reception.the-variants.{Nothing, Acquiring, Stream, Packet}
-use Rattle.state.specs.State.{transmits, receptionOf, soundState}
+use Rattle.state.specs.State.{receptionOf, soundState}
 use Rattle.radio.specs.declared.Radio.{Radio}
 use Rattle.radio.specs.declared.AirAnswer.the-variants.{Done, OutOfRange}
 use Rattle.radio.specs.declared.Heard.{Heard}
-use Rattle.radio.specs.Radio.{RX, soundRadio, answered, airNumber}
+use Rattle.radio.specs.Radio.{soundRadio, answered, airNumber}
 use Rattle.radio.specs.Box.{Box, leftBy, Sound, Receiving}
 use Rattle.radio.specs.Promises.{Told}
 use Rattle.radio.proofs.Messages.{setup-accepted, data-accepted, length-over}
 use Rattle.radio.proofs.Kept.{listened-to, each, to-host-is-told, told-stays-sound}
 use Rattle.radio.proofs.Kept.{sending-hears-nothing as nothing}
 use Rattle.tnc_stream.specs.Stream.{collectionAt, withFrame, collecting, complete, restarted, acquiredWith, acquired, behind, followed, receivedIn, ranged, streamHeard}
-use Rattle.tnc_stream.specs.Promises.{streamAt, after, Typed, InRange, RefusedKeepsAll, SendingHearsNothing, IndexOver5IsRefused, NumberOver32767IsRefused, SoundStaysSound, StreamFrameIsTold, Collects, Restarts, idle, packet, backward, Restarted, BackwardRestarts}
+use Rattle.tnc_stream.specs.Promises.{streamAt, after, Collects, Typed, InRange, RefusedKeepsAll, SendingHearsNothing, IndexOver5IsRefused, NumberOver32767IsRefused, SoundStaysSound, StreamFrameIsTold, Restarts, idle, packet, backward, Collected, AcquisitionRestarts, BackwardRestarts, SegmentIsKept, CompleteIsTold}
 use Rattle.tnc_stream.proofs.Segments.{frame-mask, frame-thirty}
-use Rattle.tnc_stream.proofs.Frames.{forward, index-over, number-over, received-as, mask-in}
+use Rattle.tnc_stream.proofs.Frames.{forward, index-over, received-as, mask-in}
 use Rattle.tnc_stream.proofs.Frames.{backward as goes-back}
 
 -- ---- refusals
@@ -147,15 +147,61 @@ restarts x f g i h = go (x .radio .state) refl h
     go (RxPacket count) e packet = received x f g i (ap receptionOf e)
     go (RxStream expected) e (backward n) = received x f g i (ap receptionOf e) ∙ sym (goes-back (x .radio) f (x .rx) (x .out) expected refl n)
 
-pub backward-restarts : BackwardRestarts
+-- segments that stand over the store's start
+at-start : (s rx : List ℕ) → length s ≡ 30 → take 30 (over s rx) ≡ s
+at-start s rx n = take-at s (drop (length s) rx) 30 n
+
+pub acquisition-restarts : AcquisitionRestarts
 unfolding restarted
-backward-restarts x f g ty i h =
-    let c = withFrame f newCollection in
-    subst (λ k. Restarted x (leftBy k) f) (sym (restarts x f g i h))
+acquisition-restarts x f g ty i h =
+    subst (λ k. Collected x (leftBy k) (withFrame f newCollection)) (sym (restarts x f g i h))
     (record {
-      its-collection = record {
-        its-state = refl;
-        its-segments = take-at (c .segments) (drop (length (c .segments)) (x .rx)) 30 (frame-thirty f newCollection (i .its-index) (ty .its-part) refl);
-      };
+      its-collection = record { its-state = refl; its-segments = at-start _ (x .rx) (frame-thirty f newCollection (i .its-index) (ty .its-part) refl) };
       its-message = refl;
     })
+
+pub backward-restarts : BackwardRestarts
+backward-restarts x f expected g ty i e n = acquisition-restarts x f g ty i (subst (Restarts f) (sym e) (backward n))
+
+-- ---- one segment more
+
+module _ (x : Box) (c : LichCollection) (f : StreamFrame) (g : Receiving x) (i : InRange f) (h : Collects x c) where
+  abbrev grown : LichCollection
+  grown = withFrame f c
+
+  abbrev with-told : Heard × List ℕ → Heard × List ℕ × List ℕ
+  with-told k = (k .0, over (grown .segments) (x .rx), k .1)
+
+  pub acquires : streamAt x f ≡ with-told (acquiredWith (x .radio) grown (f .«frame_number») (x .out))
+  unfolding acquired
+  acquires =
+      received x f g i (ap receptionOf (h .its-state))
+      ∙ ap (λ (s : List ℕ). let d = withFrame f (record { segments = s; mask = c .mask }) in let k = acquiredWith (x .radio) d (f .«frame_number») (x .out) in
+      (k .0, over (d .segments) (x .rx), k .1))
+      (h .its-segments)
+
+  its-30 : length (c .segments) ≡ 30
+  its-30 = ap length (sym (h .its-segments)) ∙ length-take-le 30 (x .rx) (omega (arith, g .sound .its-rx))
+
+  -- the LSF is not complete yet
+  pub waits : complete grown ≡ false → streamAt x f ≡ with-told (collecting (x .radio) grown, x .out)
+  unfolding acquiredWith
+  waits n = acquires ∙ ap with-told (sym (pick-no _ n refl))
+
+  pub collected : Typed f → complete grown ≡ false → Collected x (after x f) grown
+  collected ty n =
+      subst (λ k. Collected x (leftBy k) grown) (sym (waits n))
+      (record { its-collection = record { its-state = refl; its-segments = at-start _ (x .rx) (frame-thirty f c (i .its-index) (ty .its-part) its-30) }; its-message = refl })
+
+  -- it is
+  pub told-whole : complete grown ≡ true → Told (after x f) (RxStream (f .«frame_number» + 1)) (streamSetup (grown .segments))
+  unfolding acquiredWith
+  told-whole e =
+      let s = RxStream (f .«frame_number» + 1) in let b = streamSetup (grown .segments) in
+      subst (λ k. Told (leftBy k) s b) (sym (acquires ∙ ap with-told (sym (pick-yes _ e refl)))) (to-host-is-told s b (over (grown .segments) (x .rx)) (x .out))
+
+pub segment-is-kept : SegmentIsKept
+segment-is-kept x c f g ty i h n = collected x c f g i h ty n
+
+pub complete-is-told : CompleteIsTold
+complete-is-told x c f g i h e = told-whole x c f g i h e

@@ -1,3 +1,4 @@
 pub mod Segments
 pub mod Frames
 pub mod Kept
+pub mod Gathered

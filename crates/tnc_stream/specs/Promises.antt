@@ -21,7 +21,7 @@ use Rattle.radio.specs.declared.Heard.{Heard}
 use Rattle.radio.specs.Radio.{answered, airNumber}
 use Rattle.radio.specs.Box.{Box, leftBy, Sound, Receiving}
 use Rattle.radio.specs.Promises.{Told}
-use Rattle.tnc_stream.specs.Stream.{withFrame, behind, streamHeard}
+use Rattle.tnc_stream.specs.Stream.{withFrame, complete, behind, streamHeard}
 
 abbrev pub streamAt : Box → StreamFrame → Heard × List ℕ × List ℕ
 streamAt x f = streamHeard (x .radio) f (x .rx) (x .out)
@@ -77,13 +77,32 @@ pub data Restarts (f : StreamFrame) : State → Type 0 where
   packet : {count : ℕ} → Restarts f (RxPacket count)
   backward : {expected : ℕ} → f .«frame_number» < expected → Restarts f (RxStream expected)
 
--- then its segment is all that has been heard, and the message that waits is as it was
-pub record Restarted (x y : Box) (f : StreamFrame) : Type 0 where
-  pub its-collection : Collects y (withFrame f newCollection)
+-- a box whose collection is this one, and whose message that waits is as it was
+pub record Collected (x y : Box) (c : LichCollection) : Type 0 where
+  pub its-collection : Collects y c
   pub its-message : left (y .radio .outgoing) (y .out) ≡ left (x .radio .outgoing) (x .out)
 
+-- then its segment is all that has been heard
+abbrev pub AcquisitionRestarts : Type 0
+AcquisitionRestarts = (x : Box) (f : StreamFrame) → Receiving x → Typed f → InRange f → Restarts f (x .radio .state) → Collected x (after x f) (withFrame f newCollection)
+
+-- a stream frame numbered below the expected one restarts LICH acquisition
 abbrev pub BackwardRestarts : Type 0
-BackwardRestarts = (x : Box) (f : StreamFrame) → Receiving x → Typed f → InRange f → Restarts f (x .radio .state) → Restarted x (after x f) f
+BackwardRestarts =
+    (x : Box) (f : StreamFrame) (expected : ℕ) → Receiving x → Typed f → InRange f → x .radio .state ≡ RxStream expected → f .«frame_number» < expected
+    → Collected x (after x f) (withFrame f newCollection)
+
+-- a segment more is kept until all six have been heard and their CRC is 0
+abbrev pub SegmentIsKept : Type 0
+SegmentIsKept =
+    (x : Box) (c : LichCollection) (f : StreamFrame) → Receiving x → Typed f → InRange f → Collects x c → complete (withFrame f c) ≡ false
+    → Collected x (after x f) (withFrame f c)
+
+-- then they are what the host has to read, as a setup frame, and the next number is expected
+abbrev pub CompleteIsTold : Type 0
+CompleteIsTold =
+    (x : Box) (c : LichCollection) (f : StreamFrame) → Receiving x → InRange f → Collects x c → complete (withFrame f c) ≡ true
+    → Told (after x f) (RxStream (f .«frame_number» + 1)) (streamSetup (withFrame f c .segments))
 
 -- a stream frame in range that brings the segment of an LSF at its index
 pub record Brings (lsf : List ℕ) : Type 0 where

@@ -18,7 +18,7 @@ ghost use mathlib.Core.Bool.{true};
 ghost use mathlib.Core.Path.{_≡_};
 ghost use lib.ListN.{length};
 ghost use Rattle.radio.specs.Radio.{RX, MESSAGE, soundRadio};
-ghost use Rattle.tnc_stream.specs.Stream.{collecting, restarted, followed, acquired, acquiredWith, ranged, streamHeard};
+ghost use Rattle.tnc_stream.specs.Stream.{restarted, followed, acquired, acquiredWith, ranged, streamHeard};
 
 // A stream frame follows the one before it, or brings a segment of the LSF. While we send, it is our own.
 pub fn handle_stream(radio: Radio, frame: StreamFrame, rx: &mut [u8], out: &mut [u8]) -> Heard

@@ -1,8 +1,6 @@
 -- `tnc_stream::follow` meets its contract. Assumes nothing.
 use Prim.Native.Nat.{_+_}
-use mathlib.Core.Path.{_≡_, refl, ap}
-use mathlib.Core.Bool.{Bool}
-use native.Mathlib.Omega.{arith}
+use mathlib.Core.Path.{_≡_}
 use lib.ListN.{length}
 use Rattle.choice.specs.Pick.{pick}
 use Rattle.kiss_build.specs.Build.{streamData}

@@ -1,8 +1,5 @@
 -- `tnc_stream::handle_stream` meets its contract. Assumes nothing.
-use Prim.Native.Nat.{ℕ}
-use mathlib.Core.List.{List}
 use mathlib.Core.Path.{sym, _∙_}
-use Rattle.radio.specs.declared.Heard.{Heard}
 use Rattle.radio.specs.Box.{Box, Receiving}
 use Rattle.radio.proofs.Cases.{heard-as, frame-only}
 use Rattle.tnc_stream.specs.Stream.{ranged, streamHeard}

@@ -1,6 +1,5 @@
 -- `tnc_stream::listen` meets its contract. Assumes nothing.
 use mathlib.Core.Path.{_∙_}
-use native.Mathlib.Omega.{arith}
 use Rattle.tnc_stream.proofs.Frames.{index-over, number-over, received-as, mask-in}
 use borrow.Author.Needs.{needs}
 use Rattle.tnc_stream.proofs.listen.Statement.{statement}

@@ -5,7 +5,7 @@ use lib.ListN.{length}
 use Rattle.store.specs.Room.{over}
 use Rattle.protocol.specs.declared.lich.LichCollection.{LichCollection}
 use Rattle.protocol.specs.Lich.{newCollection, segmentSet}
-use Rattle.tnc_stream.specs.Stream.{withFrame, collecting, restarted}
+use Rattle.tnc_stream.specs.Stream.{collecting, restarted}
 use Rattle.tnc_stream.proofs.Segments.{frame-set, frame-thirty, segments-in}
 use borrow.Author.Needs.{needs}
 use Rattle.tnc_stream.proofs.restart.Statement.{statement}
