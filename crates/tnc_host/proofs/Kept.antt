@@ -1,18 +1,19 @@
 -- The promises of specs/Promises.antt are kept. Assumes nothing.
 use Prim.Native.Nat.{ℕ, _≤_}
-use mathlib.Core.Bool.{Bool, true, false}
+use mathlib.Core.Bool.{Bool, true, false, false≢true}
 use mathlib.Core.Path.{_≡_, refl, sym, ap, _∙_, subst}
 use mathlib.Core.List.{List, [], _∷_, _++_, append-nil}
 use native.Mathlib.Omega.{arith}
 use lib.Dec.{eqb}
+use borrow.Author.Tests.{eqb-false}
 use lib.ListN.{length, take, drop}
 use Rattle.choice.specs.Pick.{pick, pick-all}
 use Rattle.kiss_buffer.specs.declared.WriteAnswer.{WriteAnswer}
 use Rattle.kiss_buffer.specs.declared.WriteAnswer.the-variants.{Done, Full, WrongStore, OutOfBounds}
 use Rattle.kiss_buffer.specs.declared.Written.{Written}
 use Rattle.kiss_buffer.specs.Meaning.{framesOf}
-use Rattle.kiss_buffer.specs.Reader.{STORE as READER, flush}
-use Rattle.kiss_buffer.specs.Calls.{written, writeNumber, readerOf}
+use Rattle.kiss_buffer.specs.Reader.{STORE as READER, flush, refused as refusedBy}
+use Rattle.kiss_buffer.specs.Calls.{soundBuffer, writes, written, writeNumber, readerOf}
 use Rattle.kiss_buffer.specs.Promises.{Box as ReaderBox, afterWritten, afterNextFrame, Drain, none-left, handed-out, Run, over as all-read, write as one-read, Sound as ReaderSound}
 use Rattle.kiss_buffer.proofs.Kept as reader
 use Rattle.kiss_buffer.proofs.Steps.{Still, still-flush, still-ends}
@@ -98,7 +99,7 @@ module _ (l : Link) (buf : List ℕ) (s : Sound l) where
     leaves-sound = subst Sound leaves (record { its-reader = its-end .0; its-host = all-sound (its-drain .0) (l .host) (s .its-host) })
 
 -- the answer of a write is the reader's
-answer-is : (l : Link) (buf : List ℕ) → Sound l → writtenAt l buf .0 .answer ≡ written (l .reader .buffer) buf (l .reader .store) .0 .answer
+pub answer-is : (l : Link) (buf : List ℕ) → Sound l → writtenAt l buf .0 .answer ≡ written (l .reader .buffer) buf (l .reader .store) .0 .answer
 answer-is l buf s =
     sym (ap (λ (r : KissWritten × List ℕ × List ℕ × List ℕ). r .0 .answer)
     (went (l .reader .buffer) (l .host .host) buf (l .reader .store) (l .host .packets) (l .host .streams)
@@ -186,3 +187,13 @@ pub writes-obey-the-frames : WritesObeyTheFrames
 writes-obey-the-frames store len h s w m r =
     let o = obeys r (record { its-reader = new-sound store len; its-host = s }) in
     o .done ∙ ap (λ (fs : List (List ℕ)). allTaken fs h) (run-frames store len w (o .out) (o .run))
+
+-- a sound reader answers 0 or 5
+pub reader-answers : (P : WriteAnswer → Type 0) (x : ReaderBox) (buf : List ℕ) → ReaderSound x → P Done → P Full → P (written (x .buffer) buf (x .store) .0 .answer)
+unfolding written writes
+reader-answers P x buf s done full =
+    pick-all (λ (r : Written × List ℕ). P (r .0 .answer)) (eqb (length (x .store)) READER) _ _
+    (λ t. pick-all (λ (r : Written × List ℕ). P (r .0 .answer)) (soundBuffer (x .buffer) (x .store)) _ _
+    (λ u. pick-all (λ (r : Written × List ℕ). P (r .0 .answer)) (refusedBy (reading x)) _ _ (λ v. full) (λ v. done))
+    (λ u. absurd (false≢true (sym u ∙ s .its-state))))
+    (λ t. absurd (eqb-false _ _ t (s .its-store)))

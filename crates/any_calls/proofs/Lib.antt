@@ -1,0 +1,3 @@
+pub mod Host
+pub mod Air
+pub mod Kept
