@@ -1,1 +1,3 @@
 pub mod Ring
+pub mod Rests
+pub mod Walked

@@ -1,0 +1,87 @@
+-- A read takes the first frame of what is left; where it gives none, nothing is left. Assumes nothing.
+use Prim.Native.Nat.{ℕ, zero, suc, _+_, _-_, _*_, _/_, _%_, _≤_, _<_, min}
+use mathlib.Core.Path.{_≡_, refl, sym, ap, _∙_}
+use mathlib.Core.Logic.{_≢_}
+use mathlib.Core.Bool.{Bool, true, false, false≢true}
+use mathlib.Core.List.{List, [], _∷_, _++_}
+use native.Mathlib.Omega.{arith}
+use borrow.Author.Tests.{ltb-true, ltb-false, eqb-true, eqb-false}
+use lib.Dec.{ltb, eqb}
+use lib.ListN.{length, getD, set, List·getD-eq-default}
+use lib.Seq.{getD-set-same, getD-set-other}
+use Rattle.choice.specs.Pick.{pick, and-snd, pick-all}
+use Rattle.packets.specs.declared.Place.{Place}
+use Rattle.packets.specs.declared.PacketQueue.{PacketQueue}
+use Rattle.packets.specs.declared.PacketRead.{PacketRead}
+use Rattle.packets.specs.declared.ReadAnswer.the-variants.{End}
+use Rattle.packets.specs.Frames.{AirFrame}
+use Rattle.packets.specs.Queue.{STORE, noPacket, soundQueue, isEmpty, here, withPlace, advanced, notRead, lsfRead, dataRead, turn, walk, readNext, framesIn}
+use Rattle.packets.specs.Promises.{Sound}
+use Rattle.packets.proofs.Bounds.{Here, at-here, sound-advanced}
+use Rattle.packets.proofs.Cases.{read-empty, read-walks}
+use Rattle.packet_rule.specs.Left.{restAt, waiting, inTurn, restIn, leftOf}
+use Rattle.packet_rule.specs.Promises.{given}
+use Rattle.packet_rule.proofs.Ring.{turn-same, Tied, none-wait, some-wait, four-at-most, one-less}
+use Rattle.packet_rule.proofs.Rests.{Within, lsfGiven, sentOn, lsf-first, spent-has-none, data-first}
+
+-- ---- the place that is read next
+
+-- how many places of the queue wait
+abbrev pub waits : PacketQueue → ℕ
+waits q = waiting (q .full) (q .next) (q .curr)
+
+-- the rest of its places, where one less waits
+abbrev behind : PacketQueue → List ℕ → ℕ → List AirFrame
+behind q store n = inTurn (restIn q store) n ((q .curr + 1) % 4)
+
+pub tied : (q : PacketQueue) → soundQueue q ≡ true → Tied (q .full) (q .next) (q .curr)
+unfolding soundQueue pick
+tied q s = by (q .full) (and-snd _ _ (and-snd _ _ (and-snd _ _ s)))
+  where
+    by : (b : Bool) → pick b (eqb (q .next) (q .curr)) true ≡ true → b ≡ true → q .next ≡ q .curr
+    by true e h = eqb-true _ _ e
+    by false e h = absurd (false≢true h)
+
+left-here : (q : PacketQueue) (store : List ℕ) (n : ℕ) → waits q ≡ suc n → leftOf q store ≡ restAt (q .curr) (here q) store ++ behind q store n
+unfolding leftOf inTurn
+left-here q store n e = rw e
+
+pub left-none : (q : PacketQueue) (store : List ℕ) → waits q ≡ 0 → leftOf q store ≡ []
+unfolding leftOf inTurn
+left-none q store e = rw e
+
+module _ (q : PacketQueue) (store : List ℕ) (s : soundQueue q ≡ true) (n : ℕ) (e : waits q ≡ suc n) where
+  -- it is passed over
+  left-behind : restAt (q .curr) (here q) store ≡ [] → leftOf q store ≡ leftOf (advanced q) store
+  unfolding leftOf advanced
+  left-behind r = left-here q store n e ∙ rw (r, one-less (q .next) (q .curr) (at-here q s .next) (at-here q s .curr) (q .full) n (tied q s) e)
+
+  -- it is another
+  left-with : (p : Place) → q .curr < length (q .places) → leftOf (withPlace q p) store ≡ restAt (q .curr) p store ++ behind q store n
+  unfolding withPlace
+  left-with p h =
+      let a = at-here q s in
+      left-here (withPlace q p) store n e
+      ∙ rw (getD-set-same (q .places) (q .curr) p noPacket h)
+      (ap (λ (fs : List AirFrame). restAt (q .curr) p store ++ fs)
+      (turn-same (restIn (withPlace q p) store) (restIn q store) n ((q .curr + 1) % 4) (omega arith)
+      (λ j l. ap (λ (x : Place). restAt (((q .curr + 1) % 4 + j) % 4) x store)
+      (getD-set-other (q .places) (q .curr) (((q .curr + 1) % 4 + j) % 4) p noPacket (omega (arith, four-at-most (q .next) (q .curr) (a .next) (a .curr) (q .full)))))))
+
+-- a place beyond the array has no packet
+beyond : (q : PacketQueue) → length (q .places) ≤ q .curr → here q ≡ noPacket
+beyond q h = List·getD-eq-default (q .places) noPacket h
+
+there : (q : PacketQueue) → (here q ≡ noPacket → ⊥) → q .curr < length (q .places)
+there q f = by (ltb (q .curr) (length (q .places))) refl
+  where
+    by : (b : Bool) → ltb (q .curr) (length (q .places)) ≡ b → q .curr < length (q .places)
+    by true e = ltb-true _ _ e
+    by false e = absurd (f (beyond q (ltb-false _ _ e)))
+
+-- ---- the walk over the places
+
+-- what a read gives stands first in what is left, which is otherwise as it was; it gives no frame only where nothing is left
+pub record Takes (q : PacketQueue) (store : List ℕ) (r : PacketRead) : Type 0 where
+  pub kept : leftOf q store ≡ given r ++ leftOf (r .queue) store
+  pub used-up : given r ≡ [] → leftOf q store ≡ []
