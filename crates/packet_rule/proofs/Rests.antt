@@ -118,8 +118,10 @@ module _ (store : List ℕ) (l : length store ≡ STORE) (k : ℕ) (below : k < 
   pub rest-elsewhere : (j : ℕ) (p : Place) → j ≢ k → Within p → restAt j p (stored store k room) ≡ restAt j p store
   unfolding restAt lsfLeft dataLeft
   rest-elsewhere j p apart w =
-      rw (part-elsewhere j (ROOM * j) 30 apart (omega arith) (omega arith),
-      part-elsewhere j (ROOM * j + 30 + p .sent) (p .len - p .sent) apart (omega arith) (omega arith))
+      rw (
+        part-elsewhere j (ROOM * j) 30 apart (omega arith) (omega arith),
+        part-elsewhere j (ROOM * j + 30 + p .sent) (p .len - p .sent) apart (omega arith) (omega arith),
+      )
 
   part-there : (m n : ℕ) → m + n ≤ ROOM → part (ROOM * k + m) n (stored store k room) ≡ part m n room
   part-there m n h = part-placed store room (ROOM * k) fits m n (omega arith)

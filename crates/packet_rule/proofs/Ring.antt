@@ -3,7 +3,7 @@ use Prim.Native.Nat.{ℕ, zero, suc, _+_, _-_, _%_, _≤_, _<_}
 use mathlib.Core.Path.{_≡_, refl, sym, ap, _∙_}
 use mathlib.Core.Logic.{_≢_}
 use mathlib.Core.Bool.{Bool, true, false, false≢true}
-use mathlib.Core.List.{List, [], _∷_, _++_, append-nil, append-assoc}
+use mathlib.Core.List.{List, _++_, append-nil, append-assoc}
 use native.Mathlib.Omega.{arith}
 use borrow.Author.Tests.{eqb-true, eqb-false}
 use lib.Dec.{eqb}
@@ -19,8 +19,11 @@ unfolding inTurn
 turn-same f g zero k h e = refl
 turn-same f g (suc n) k h e =
     let a : f k ≡ g k = ap f {x = k} (omega arith) ∙ e 0 (omega arith) ∙ ap g (omega arith) in
-    rw (a, turn-same f g n ((k + 1) % 4) (omega arith)
-    (λ j l. ap f {y = (k + suc j) % 4} (omega arith) ∙ e (suc j) (omega arith) ∙ ap g (omega arith)))
+    rw (
+      a,
+      turn-same f g n ((k + 1) % 4) (omega arith)
+          (λ j l. ap f {y = (k + suc j) % 4} (omega arith) ∙ e (suc j) (omega arith) ∙ ap g (omega arith)),
+    )
 
 -- one place more at the end
 pub turn-last : (f : ℕ → List AirFrame) (n k : ℕ) → k < 4 → inTurn f (suc n) k ≡ inTurn f n k ++ f ((k + n) % 4)

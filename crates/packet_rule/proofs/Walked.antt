@@ -1,5 +1,5 @@
 -- A read takes the first frame of what is left; where it gives none, nothing is left. Assumes nothing.
-use Prim.Native.Nat.{ℕ, zero, suc, _+_, _-_, _*_, _/_, _%_, _≤_, _<_, min}
+use Prim.Native.Nat.{ℕ, zero, suc, _+_, _-_, _%_, _≤_, _<_, min}
 use mathlib.Core.Path.{_≡_, refl, sym, ap, subst, _∙_}
 use mathlib.Core.Logic.{_≢_}
 use mathlib.Core.Bool.{Bool, true, false, false≢true}
@@ -7,22 +7,20 @@ use mathlib.Core.List.{List, [], _∷_, _++_}
 use native.Mathlib.Omega.{arith}
 use borrow.Author.Tests.{ltb-true, ltb-false, eqb-true, eqb-false}
 use lib.Dec.{ltb, eqb}
-use lib.ListN.{length, getD, set, List·getD-eq-default}
+use lib.ListN.{length, List·getD-eq-default}
 use lib.Seq.{getD-set-same, getD-set-other}
 use Rattle.choice.specs.Pick.{pick, and-snd, pick-all}
 use Rattle.packets.specs.declared.Place.{Place}
 use Rattle.packets.specs.declared.PacketQueue.{PacketQueue}
 use Rattle.packets.specs.declared.PacketRead.{PacketRead}
-use Rattle.packets.specs.declared.ReadAnswer.the-variants.{End}
 use Rattle.packets.specs.Frames.{AirFrame}
-use Rattle.packets.specs.Queue.{STORE, noPacket, soundQueue, isEmpty, here, withPlace, advanced, notRead, lsfRead, dataRead, turn, walk, readNext, framesIn}
-use Rattle.packets.specs.Promises.{Sound}
-use Rattle.packets.proofs.Bounds.{Here, at-here, sound-advanced}
+use Rattle.packets.specs.Queue.{STORE, noPacket, soundQueue, isEmpty, here, withPlace, advanced, lsfRead, dataRead, turn, walk, readNext}
+use Rattle.packets.proofs.Bounds.{at-here, sound-advanced}
 use Rattle.packets.proofs.Cases.{read-empty, read-walks}
 use Rattle.packet_rule.specs.Left.{restAt, waiting, inTurn, restIn, leftOf}
 use Rattle.packet_rule.specs.Promises.{given}
 use Rattle.packet_rule.proofs.Ring.{turn-same, Tied, none-wait, some-wait, four-at-most, one-less}
-use Rattle.packet_rule.proofs.Rests.{Within, lsfGiven, sentOn, lsf-first, spent-has-none, data-first}
+use Rattle.packet_rule.proofs.Rests.{lsfGiven, sentOn, lsf-first, spent-has-none, data-first}
 
 -- ---- the place that is read next
 

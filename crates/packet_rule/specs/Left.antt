@@ -1,7 +1,7 @@
 -- What the packet queue has still to give: the frames of its waiting packets that it has not yet given, in order of acceptance, and the packet that a push accepts.
 -- From document 01's queue rule: over any calls the frames read "are a beginning of the accepted packets' frame lists joined in order of acceptance". Assumes nothing.
 use Prim.Native.Nat.{ℕ, zero, suc, _+_, _-_, _*_, _/_, _%_}
-use mathlib.Core.Bool.{Bool, true, false}
+use mathlib.Core.Bool.{Bool}
 use mathlib.Core.List.{List, [], _∷_, _++_}
 use lib.ListN.{getD}
 use Rattle.choice.specs.Pick.{pick}

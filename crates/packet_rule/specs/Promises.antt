@@ -21,11 +21,15 @@ NewHasNone = (store : List ℕ) → leftOf newQueue store ≡ []
 
 -- ---- pushes
 
--- the queue's array has its four places
+-- the queue's array has its four places, as its type says
 abbrev pub Four : PacketQueue → Type 0
 Four q = length (q .places) ≡ 4
 
--- every call leaves four places
+-- so has a new queue
+abbrev pub NewHasFour : Type 0
+NewHasFour = Four newQueue
+
+-- and every call leaves four
 abbrev pub FourStayFour : Type 0
 FourStayFour =
     (q : PacketQueue) (store : List ℕ) → Four q
@@ -55,11 +59,11 @@ ReadTakes = (q : PacketQueue) (store : List ℕ) → Sound q store → leftOf q 
 abbrev pub EndIsUsedUp : Type 0
 EndIsUsedUp = (q : PacketQueue) (store : List ℕ) → Sound q store → readNext q store .answer ≡ End → leftOf q store ≡ []
 
--- and so does a read that gives nothing
+-- so does the answer that there is nothing
 abbrev pub NothingIsUsedUp : Type 0
 NothingIsUsedUp = (q : PacketQueue) (store : List ℕ) → Sound q store → readNext q store .answer ≡ Nothing → leftOf q store ≡ []
 
--- while something is left, a read gives a frame
+-- while something is left a read gives a frame, and so no end
 abbrev pub SomethingIsGiven : Type 0
 SomethingIsGiven = (q : PacketQueue) (store : List ℕ) → Sound q store → leftOf q store ≢ [] → given (readNext q store) ≢ []
 
