@@ -44,7 +44,7 @@ pub places-end : (ps : List Place) (i : ℕ) → length ps ≤ i → allPass sou
 unfolding allPass
 places-end ps i h = rw (drop-of-length-le ps h)
 
-place-at : (ps : List Place) (i : ℕ) → allPass soundPlace ps ≡ true → soundPlace (getD ps i noPacket) ≡ true
+pub place-at : (ps : List Place) (i : ℕ) → allPass soundPlace ps ≡ true → soundPlace (getD ps i noPacket) ≡ true
 unfolding allPass
 place-at [] i s = sound-place noPacket (omega arith) (omega arith)
 place-at (p ∷ ps) zero s = and-fst _ _ s
@@ -59,7 +59,7 @@ places-set (x ∷ ps) (suc i) p s h = and-both (and-fst _ _ s) (places-set ps i 
 -- ---- the queue
 
 module _ (q : PacketQueue) (s : soundQueue q ≡ true) where
-  places : allPass soundPlace (q .places) ≡ true
+  pub places : allPass soundPlace (q .places) ≡ true
   unfolding soundQueue
   places = and-fst _ _ s
 

@@ -105,11 +105,11 @@ unfolding full
 full-fit NoPayload d l h = fits-malformed
 full-fit (Payload n) d l h = pick-all Fits _ _ _ (λ _. fits-fills l (omega arith)) (λ _. fits-unfit)
 
-made-basic-fit : (f : List ℕ) → Fits (madeBasic f)
+pub made-basic-fit : (f : List ℕ) → Fits (madeBasic f)
 unfolding madeBasic
 made-basic-fit f = basic-fit (decoded f (zeros 824) .0) (decoded f (zeros 824) .1) (in-room f (zeros 824) .0 ∙ length-zeros 824)
 
-made-full-fit : (f : List ℕ) → Fits (madeFull f)
+pub made-full-fit : (f : List ℕ) → Fits (madeFull f)
 unfolding madeFull
 made-full-fit f =
     let r = in-room f (zeros ROOM) in

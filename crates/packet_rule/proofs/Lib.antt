@@ -1,0 +1,5 @@
+pub mod Ring
+pub mod Rests
+pub mod Walked
+pub mod Added
+pub mod Kept
