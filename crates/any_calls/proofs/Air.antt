@@ -61,7 +61,7 @@ hears-sound w e = go (subst told-frame (sym e) Prim.tt)
         (λ u. pick-all (λ (k : Hears). told-frame k → soundTnc (w .tnc) ≡ true) (soundTnc (w .tnc)) _ _ (λ v i. v) (λ v. absurd)) (λ u. absurd)) (λ t. absurd)
 
 -- what holds of every refusal, and of what the radio comes to in a sound TNC, holds of a frame
-each-heard : (w : World) (h : Heard × List ℕ × List ℕ) (Q : TncHeard × List ℕ × List ℕ → Type 0) → ((a : AirAnswer) → Q (record { answer = a; tnc = w .tnc }, w .rx, w .message))
+pub each-heard : (w : World) (h : Heard × List ℕ × List ℕ) (Q : TncHeard × List ℕ × List ℕ → Type 0) → ((a : AirAnswer) → Q (record { answer = a; tnc = w .tnc }, w .rx, w .message))
     → (soundTnc (w .tnc) ≡ true → Q (putHeard (w .tnc) (h .0), h .1, h .2)) → Q (hears w h)
 unfolding airHeard
 each-heard w h Q f d = go (tncHears (w .tnc) (w .rx) (w .message)) refl

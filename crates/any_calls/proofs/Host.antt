@@ -45,11 +45,11 @@ use Rattle.any_calls.specs.Promises.{Sound}
 -- ---- bytes from the host
 
 -- the part of the world that they can change
-abbrev link : World → Link
+abbrev pub link : World → Link
 link w = record { reader = readerBox (w .tnc .buffer) (w .reader); host = hostBox (record { sending = w .tnc .sending; channel = w .channel }) (w .packets) (w .streams) }
 
 -- the world with another such part
-abbrev withLink : World → Link → World
+abbrev pub withLink : World → Link → World
 withLink w l =
     record {
       tnc = record { buffer = l .reader .buffer; sending = l .host .host .sending; radio = w .tnc .radio; ptt = w .tnc .ptt };
@@ -78,7 +78,7 @@ write-refused w buf =
     (λ n. ap (withLink w) (host.refused-keeps-all (link w) buf n .1))
 
 module _ (w : World) (s : Sound w) where
-  link-sound : LinkSound (link w)
+  pub link-sound : LinkSound (link w)
   unfolding soundHost
   link-sound =
       record {
@@ -109,7 +109,7 @@ module _ (w : World) (s : Sound w) where
         its-channel = and-snd _ _ (k .its-host .its-host);
       }
 
-  comes-to : (buf : List ℕ) → (let r = writtenAt (link w) buf in (putBack (w .tnc) (r .0), r .1, r .2, r .3)) ≡ writes w buf
+  pub comes-to : (buf : List ℕ) → (let r = writtenAt (link w) buf in (putBack (w .tnc) (r .0), r .1, r .2, r .3)) ≡ writes w buf
   comes-to buf = is-written (w .tnc) (w .channel) buf (w .reader) (w .packets) (w .streams) (s .its-reader) (s .its-packets) (s .its-streams) (s .its-tnc)
 
   pub write-sound : (buf : List ℕ) → Sound (afterWrite w (writes w buf))
@@ -125,7 +125,7 @@ module _ (w : World) (s : Sound w) where
 
 -- ---- bytes to the host
 
-each-read : (w : World) (target : List ℕ) (Q : TncRead × List ℕ → Type 0)
+pub each-read : (w : World) (target : List ℕ) (Q : TncRead × List ℕ → Type 0)
     → ((r : TncRead) → r .tnc ≡ w .tnc → Q (r, target))
     → (soundTnc (w .tnc) ≡ true → (let r = hostRead (w .tnc .radio .outgoing) (w .message) target in Q (hasRead (w .tnc) (r .0), r .1))) → Q (reads w target)
 unfolding tncRead

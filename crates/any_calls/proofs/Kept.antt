@@ -137,11 +137,11 @@ ptt-fine t e = rw e (pick-all (λ (p : Ptt). pttNumber p ≤ 6) (t .ptt) _ _ (λ
 
 -- ---- reads for the modulator
 
-abbrev tx : World → TxBox
+abbrev pub tx : World → TxBox
 tx w = record { state = w .tnc .radio .state; sending = w .tnc .sending; channel = w .channel; packets = w .packets; streams = w .streams }
 
 -- what holds of every refusal, and of what the read comes to in a sound TNC, holds of a read
-each-given : (w : World) (Q : TncTx → Type 0) → ((a : TxAnswer) → Q (notGiven a (w .tnc) (w .channel))) → (soundTnc (w .tnc) ≡ true → Q (putGiven (w .tnc) (readOf (tx w)))) → Q (gives w)
+pub each-given : (w : World) (Q : TncTx → Type 0) → ((a : TxAnswer) → Q (notGiven a (w .tnc) (w .channel))) → (soundTnc (w .tnc) ≡ true → Q (putGiven (w .tnc) (readOf (tx w)))) → Q (gives w)
 unfolding tncTx
 each-given w Q f d =
     pick-all Q (eqb (length (w .packets)) PACKETS) _ _
@@ -162,7 +162,7 @@ given-refused w =
     (λ s n. ap (withTx w) (modulator.refused-keeps-all (tx w) n) ∙ same-tx w s)
 
 module _ (w : World) (s : Sound w) where
-  tx-sound : TxSound (tx w)
+  pub tx-sound : TxSound (tx w)
   unfolding allSound soundRadio
   tx-sound =
       let p = parts (w .tnc) (s .its-tnc) in

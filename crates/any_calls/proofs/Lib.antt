@@ -1,3 +1,4 @@
 pub mod Host
 pub mod Air
 pub mod Kept
+pub mod Flow

@@ -1,2 +1,4 @@
 pub mod Calls
 pub mod Promises
+pub mod Queues
+pub mod QueueRule

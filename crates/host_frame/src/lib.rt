@@ -35,7 +35,7 @@ pub struct FrameTaken {
 }
 
 // The first byte of a setting's payload.
-enum Setting {
+pub enum Setting {
     Value(u8),
     Nothing,
 }

@@ -188,6 +188,15 @@ writes-obey-the-frames store len h s w m r =
     let o = obeys r (record { its-reader = new-sound store len; its-host = s }) in
     o .done ∙ ap (λ (fs : List (List ℕ)). allTaken fs h) (run-frames store len w (o .out) (o .run))
 
+-- a write that is answered 0 does what the frames do that it completes
+pub writes-take : (l : Link) (buf : List ℕ) → Sound l → written (l .reader .buffer) buf (l .reader .store) .0 .answer ≡ Done
+    → allTaken (framesHeld (afterWritten (l .reader) buf)) (l .host) ≡ afterWrite l buf .host
+unfolding drained
+writes-take l buf s e =
+    ap (λ (r : KissWritten × List ℕ × List ℕ × List ℕ). leftBy r .host)
+    (went (l .reader .buffer) (l .host .host) buf (l .reader .store) (l .host .packets) (l .host .streams)
+    (s .its-reader .its-store) (s .its-host .its-packets) (s .its-host .its-streams) (s .its-host .its-host) Done _ _ refl e)
+
 -- a sound reader answers 0 or 5
 pub reader-answers : (P : WriteAnswer → Type 0) (x : ReaderBox) (buf : List ℕ) → ReaderSound x → P Done → P Full → P (written (x .buffer) buf (x .store) .0 .answer)
 unfolding written writes
