@@ -20,6 +20,8 @@ use Rattle.protocol.specs.declared.lsf.Mode.the-variants.{Packet, Stream}
 use Rattle.kiss_buffer.specs.Calls.{soundBuffer}
 use Rattle.state.specs.declared.Reception.{Reception}
 use Rattle.state.specs.declared.Reception.the-variants.{Nothing, Acquiring as Segments, Stream as InStream, Packet as InPacket}
+use Rattle.state.specs.declared.State.{State}
+use Rattle.state.specs.declared.State.the-variants.{TxStreamSentEndOfStream}
 use Rattle.state.specs.State.{transmits, receptionOf}
 use Rattle.radio.specs.declared.Radio.{Radio}
 use Rattle.radio.specs.declared.AirAnswer.{AirAnswer}
@@ -119,70 +121,76 @@ module _ (w : World) (s : Sound w) (h : Heard × List ℕ × List ℕ) where
   pub heard-answer : h .0 .answer ≡ hears w h .0 .answer
   heard-answer = ap (λ (r : TncHeard × List ℕ × List ℕ). r .0 .answer) comes-to
 
--- ---- a frame that is not refused for its stores or record is answered 0 or 6
+-- ---- a frame that is not refused for its stores or record is answered 0 or 6, and leaves no stream sent that was not
 
--- at most 6
-Fine : Heard × List ℕ × List ℕ → Type 0
-Fine h = airNumber (h .0 .answer) ≤ 6
+pub record Fine (r : Radio) (h : Heard) : Type 0 where
+  pub at-most-6 : airNumber (h .answer) ≤ 6
+  pub was-sent : h .radio .state ≡ TxStreamSentEndOfStream → r .state ≡ TxStreamSentEndOfStream
 
-fine-sending : (x : Box) (h : Heard × List ℕ × List ℕ) → RadioSound x → Fine h → Fine (unlessSending (x .radio) (x .rx) (x .out) h)
-unfolding Fine
+-- with a state in which nothing is sent, and with the state as it was
+off : {r : Radio} {h : Heard} → airNumber (h .answer) ≤ 6 → transmits (h .radio .state) ≡ false → Fine r h
+off n e = record { at-most-6 = n; was-sent = λ f. absurd (false≢true (sym e ∙ ap transmits f)) }
+
+same : {r : Radio} {h : Heard} → airNumber (h .answer) ≤ 6 → h .radio .state ≡ r .state → Fine r h
+same n e = record { at-most-6 = n; was-sent = λ f. sym e ∙ f }
+
+fine-sending : (x : Box) (h : Heard × List ℕ × List ℕ) → RadioSound x → Fine (x .radio) (h .0) → Fine (x .radio) (unlessSending (x .radio) (x .rx) (x .out) h .0)
 fine-sending x h s f = by (transmits (x .radio .state)) refl
   where
-    by : (b : Bool) → transmits (x .radio .state) ≡ b → airNumber (unlessSending (x .radio) (x .rx) (x .out) h .0 .answer) ≤ 6
-    by true e = subst (λ (r : Heard × List ℕ × List ℕ). airNumber (r .0 .answer) ≤ 6) (sym (radio.sending-hears-nothing x h s e)) (omega arith)
-    by false e = subst (λ (r : Heard × List ℕ × List ℕ). airNumber (r .0 .answer) ≤ 6) (sym (radio.listened-to x h (record { sound = s; not-sending = e }))) f
+    by : (b : Bool) → transmits (x .radio .state) ≡ b → Fine (x .radio) (unlessSending (x .radio) (x .rx) (x .out) h .0)
+    by true e = subst (λ (r : Heard × List ℕ × List ℕ). Fine (x .radio) (r .0)) (sym (radio.sending-hears-nothing x h s e)) (same (omega arith) refl)
+    by false e = subst (λ (r : Heard × List ℕ × List ℕ). Fine (x .radio) (r .0)) (sym (radio.listened-to x h (record { sound = s; not-sending = e }))) f
 
-begun-fine : (m : Mode) (r : Radio) (lsf rx out : List ℕ) → Fine (begun m r lsf rx out)
-unfolding Fine
-begun-fine Packet r lsf rx out = omega arith
-begun-fine Stream r lsf rx out = omega arith
+begun-fine : (m : Mode) (r : Radio) (lsf rx out : List ℕ) → Fine r (begun m r lsf rx out .0)
+begun-fine Packet r lsf rx out = off (omega arith) refl
+begun-fine Stream r lsf rx out = off (omega arith) refl
 
-pub lsf-fine : (x : Box) (lsf : List ℕ) → RadioSound x → airNumber (lsfHeard (x .radio) lsf (x .rx) (x .out) .0 .answer) ≤ 6
-unfolding lsfHeard Fine
+pub lsf-fine : (x : Box) (lsf : List ℕ) → RadioSound x → Fine (x .radio) (lsfHeard (x .radio) lsf (x .rx) (x .out) .0)
+unfolding lsfHeard
 lsf-fine x lsf s = fine-sending x (begun (modeOf (fieldOf modeBits lsf)) (x .radio) lsf (x .rx) (x .out)) s (begun-fine (modeOf (fieldOf modeBits lsf)) (x .radio) lsf (x .rx) (x .out))
 
-collected-fine : (k : Reception) (r : Radio) (index : ℕ) (payload rx : List ℕ) → airNumber (collectedIn k r index payload rx .0 .answer) ≤ 6
+collected-fine : (k : Reception) (r : Radio) (index : ℕ) (payload rx : List ℕ) → Fine r (collectedIn k r index payload rx .0)
 unfolding collectedAfter
-collected-fine Nothing r index payload rx = omega arith
-collected-fine (Segments mask) r index payload rx = omega arith
-collected-fine (InStream expected) r index payload rx = omega arith
+collected-fine Nothing r index payload rx = off (omega arith) refl
+collected-fine (Segments mask) r index payload rx = off (omega arith) refl
+collected-fine (InStream expected) r index payload rx = off (omega arith) refl
 collected-fine (InPacket count) r index payload rx =
-    pick-all (λ (h : Heard × List ℕ). airNumber (h .0 .answer) ≤ 6) (eqb index count) _ _
-    (λ t. pick-all (λ (h : Heard × List ℕ). airNumber (h .0 .answer) ≤ 6) (ltb index 32) _ _ (λ u. omega arith) (λ u. omega arith)) (λ t. omega arith)
+    pick-all (λ (h : Heard × List ℕ). Fine r (h .0)) (eqb index count) _ _
+    (λ t. pick-all (λ (h : Heard × List ℕ). Fine r (h .0)) (ltb index 32) _ _ (λ u. off (omega arith) refl) (λ u. off (omega arith) refl)) (λ t. off (omega arith) refl)
 
-finished-fine : (k : Reception) (r : Radio) (len : ℕ) (payload rx out : List ℕ) → Fine (finishedIn k r len payload rx out)
-unfolding finishedAfter Fine
-finished-fine Nothing r len payload rx out = omega arith
-finished-fine (Segments mask) r len payload rx out = omega arith
-finished-fine (InStream expected) r len payload rx out = omega arith
-finished-fine (InPacket count) r len payload rx out = omega arith
+finished-fine : (k : Reception) (r : Radio) (len : ℕ) (payload rx out : List ℕ) → Fine r (finishedIn k r len payload rx out .0)
+unfolding finishedAfter
+finished-fine Nothing r len payload rx out = off (omega arith) refl
+finished-fine (Segments mask) r len payload rx out = off (omega arith) refl
+finished-fine (InStream expected) r len payload rx out = off (omega arith) refl
+finished-fine (InPacket count) r len payload rx out = off (omega arith) refl
 
-counted-fine : (c : PacketFrameCounter) (r : Radio) (payload rx out : List ℕ) → Fine (counted c r payload rx out)
-unfolding finished Fine
+counted-fine : (c : PacketFrameCounter) (r : Radio) (payload rx out : List ℕ) → Fine r (counted c r payload rx out .0)
+unfolding finished
 counted-fine (Counted index) r payload rx out = collected-fine (receptionOf (r .state)) r index payload rx
 counted-fine (Final len) r payload rx out =
-    pick-all (λ (h : Heard × List ℕ × List ℕ). airNumber (h .0 .answer) ≤ 6) (ltb 25 len) _ _ (λ t. omega arith) (λ t. finished-fine (receptionOf (r .state)) r len payload rx out)
+    pick-all (λ (h : Heard × List ℕ × List ℕ). Fine r (h .0)) (ltb 25 len) _ _ (λ t. same (omega arith) refl) (λ t. finished-fine (receptionOf (r .state)) r len payload rx out)
 
-pub packet-fine : (x : Box) (f : PacketFrame) → RadioSound x → airNumber (packetHeard (x .radio) f (x .rx) (x .out) .0 .answer) ≤ 6
-unfolding packetHeard Fine
+pub packet-fine : (x : Box) (f : PacketFrame) → RadioSound x → Fine (x .radio) (packetHeard (x .radio) f (x .rx) (x .out) .0)
+unfolding packetHeard
 packet-fine x f s = fine-sending x _ s (counted-fine (f .counter) (x .radio) (f .payload) (x .rx) (x .out))
 
-received-fine : (k : Reception) (r : Radio) (f : StreamFrame) (rx out : List ℕ) → Fine (receivedIn k r f rx out)
-unfolding restarted acquired acquiredWith followed Fine
-received-fine Nothing r f rx out = omega arith
-received-fine (Segments mask) r f rx out = pick-all (λ (h : Heard × List ℕ). airNumber (h .0 .answer) ≤ 6) _ _ _ (λ t. omega arith) (λ t. omega arith)
+received-fine : (k : Reception) (r : Radio) (f : StreamFrame) (rx out : List ℕ) → Fine r (receivedIn k r f rx out .0)
+unfolding restarted acquired acquiredWith followed
+received-fine Nothing r f rx out = off (omega arith) refl
+received-fine (Segments mask) r f rx out = pick-all (λ (h : Heard × List ℕ). Fine r (h .0)) _ _ _ (λ t. off (omega arith) refl) (λ t. off (omega arith) refl)
 received-fine (InStream expected) r f rx out =
-    pick-all (λ (h : Heard × List ℕ × List ℕ). airNumber (h .0 .answer) ≤ 6) (ltb (f .«frame_number») expected) _ _ (λ t. omega arith) (λ t. omega arith)
-received-fine (InPacket count) r f rx out = omega arith
+    pick-all (λ (h : Heard × List ℕ × List ℕ). Fine r (h .0)) (ltb (f .«frame_number») expected) _ _ (λ t. off (omega arith) refl)
+    (λ t. off (omega arith) (pick-all (λ (k : State). transmits k ≡ false) (f .«end_of_stream») _ _ (λ u. refl) (λ u. refl)))
+received-fine (InPacket count) r f rx out = off (omega arith) refl
 
-ranged-fine : (r : Radio) (f : StreamFrame) (rx out : List ℕ) → Fine (ranged r f rx out)
-unfolding ranged Fine
+ranged-fine : (r : Radio) (f : StreamFrame) (rx out : List ℕ) → Fine r (ranged r f rx out .0)
+unfolding ranged
 ranged-fine r f rx out =
-    pick-all (λ (h : Heard × List ℕ × List ℕ). airNumber (h .0 .answer) ≤ 6) (ltb 5 (f .«lich_idx»)) _ _ (λ t. omega arith)
-    (λ t. pick-all (λ (h : Heard × List ℕ × List ℕ). airNumber (h .0 .answer) ≤ 6) (ltb 32767 (f .«frame_number»)) _ _ (λ u. omega arith)
+    pick-all (λ (h : Heard × List ℕ × List ℕ). Fine r (h .0)) (ltb 5 (f .«lich_idx»)) _ _ (λ t. same (omega arith) refl)
+    (λ t. pick-all (λ (h : Heard × List ℕ × List ℕ). Fine r (h .0)) (ltb 32767 (f .«frame_number»)) _ _ (λ u. same (omega arith) refl)
     (λ u. received-fine (receptionOf (r .state)) r f rx out))
 
-pub stream-fine : (x : Box) (f : StreamFrame) → RadioSound x → airNumber (streamHeard (x .radio) f (x .rx) (x .out) .0 .answer) ≤ 6
-unfolding streamHeard Fine
+pub stream-fine : (x : Box) (f : StreamFrame) → RadioSound x → Fine (x .radio) (streamHeard (x .radio) f (x .rx) (x .out) .0)
+unfolding streamHeard
 stream-fine x f s = fine-sending x _ s (ranged-fine (x .radio) f (x .rx) (x .out))

@@ -1,5 +1,5 @@
 -- The promises of specs/Promises.antt are kept. Assumes nothing.
-use Prim.Native.Nat.{ℕ, _≤_}
+use Prim.Native.Nat.{ℕ, _+_, _≤_}
 use mathlib.Core.Bool.{Bool, true, false}
 use mathlib.Core.Path.{_≡_, refl, sym, ap, _∙_, subst}
 use mathlib.Core.List.{List, [], _∷_}
@@ -21,7 +21,7 @@ use Rattle.packets.specs.Queue.{STORE as PACKETS}
 use Rattle.streams.specs.Queue.{STORE as STREAMS}
 use Rattle.radio.specs.Radio.{soundRadio, airNumber}
 use Rattle.state.specs.declared.State.{State}
-use Rattle.state.specs.State.{transmits}
+use Rattle.state.specs.State.{transmits, timeReached, endingAt}
 use Rattle.tnc_air.specs.Promises.{lsf, packet}
 use Rattle.tnc_air.proofs.Kept as air
 use Rattle.tnc_stream.proofs.Kept as stream
@@ -76,21 +76,21 @@ timed-kept : (w : World) (r : Timed) → Kept (w .tnc) (w .channel) r → afterT
 timed-kept w r k = λ i. withBoth w (k .its-tnc i) (k .its-channel i)
 
 -- the time changes the state at most
-clock-leaves : (P : Tnc → Type 0) (a : ChannelAnswer) (t : Tnc) (c : Channel) (n : ℕ) → P t → ((s : State) → P (withState t s)) → P (onClock a t c n .tnc)
-clock-leaves P Set t c n p f = f _
+clock-leaves : (P : Tnc → Type 0) (a : ChannelAnswer) (t : Tnc) (c : Channel) (n : ℕ) → P t → P (withState t (timeReached (t .radio .state) n)) → P (onClock a t c n .tnc)
+clock-leaves P Set t c n p f = f
 clock-leaves P TooLate t c n p f = p
 clock-leaves P NotSet t c n p f = p
 
-pub now-leaves : (P : Tnc → Type 0) (t : Tnc) (c : Channel) (n : ℕ) → P t → ((s : State) → P (withState t s)) → P (nowSet t c n .tnc)
+pub now-leaves : (P : Tnc → Type 0) (t : Tnc) (c : Channel) (n : ℕ) → P t → P (withState t (timeReached (t .radio .state) n)) → P (nowSet t c n .tnc)
 unfolding nowSet
 now-leaves P t c n p f =
     pick-all (λ (r : Timed). P (r .tnc)) (soundTnc t) _ _ (λ u. clock-leaves P (clockSet c n .answer) t (clockSet c n .channel) n p f) (λ u. p)
 
-pub end-leaves : (P : Tnc → Type 0) (t : Tnc) (c : Channel) (n : ℕ) → P t → ((s : State) → P (withState t s)) → P (endTimeSet t c n .tnc)
+pub end-leaves : (P : Tnc → Type 0) (t : Tnc) (c : Channel) (n : ℕ) → P t → P (withState t (endingAt (t .radio .state) (c .clock + n))) → P (endTimeSet t c n .tnc)
 unfolding endTimeSet
 end-leaves P t c n p f =
     pick-all (λ (r : Timed). P (r .tnc)) (soundTnc t) _ _
-    (λ u. pick-all (λ (r : Timed). P (r .tnc)) (soundChannel c) _ _ (λ v. pick-all (λ (r : Timed). P (r .tnc)) (leb n FARTHEST) _ _ (λ x. f _) (λ x. p)) (λ v. p))
+    (λ u. pick-all (λ (r : Timed). P (r .tnc)) (soundChannel c) _ _ (λ v. pick-all (λ (r : Timed). P (r .tnc)) (leb n FARTHEST) _ _ (λ x. f) (λ x. p)) (λ v. p))
     (λ u. p)
 
 SameBuffer : Tnc → Tnc → Type 0
@@ -98,11 +98,11 @@ SameBuffer t u = u .buffer ≡ t .buffer
 
 now-buffer : (t : Tnc) (c : Channel) (n : ℕ) → nowSet t c n .tnc .buffer ≡ t .buffer
 unfolding SameBuffer
-now-buffer t c n = now-leaves (SameBuffer t) t c n refl (λ s. refl)
+now-buffer t c n = now-leaves (SameBuffer t) t c n refl refl
 
 end-buffer : (t : Tnc) (c : Channel) (n : ℕ) → endTimeSet t c n .tnc .buffer ≡ t .buffer
 unfolding SameBuffer
-end-buffer t c n = end-leaves (SameBuffer t) t c n refl (λ s. refl)
+end-buffer t c n = end-leaves (SameBuffer t) t c n refl refl
 
 -- not 7 and not 8
 Fine : ℕ → Type 0
@@ -224,9 +224,9 @@ pub sound-is-answered : SoundIsAnswered
 unfolding number Fine
 sound-is-answered w (writeKiss buf) d s = write-fine w s buf
 sound-is-answered w (readKiss target) d s = fine (omega (arith, read-fine w s target))
-sound-is-answered w (handleLsf bytes) d s = fine (subst (λ a. airNumber a ≤ 6) (heard-answer w s (lsfIn w bytes)) (lsf-fine (box w) bytes (box-sound w s (lsfIn w bytes))))
-sound-is-answered w (handlePacket f) d s = fine (subst (λ a. airNumber a ≤ 6) (heard-answer w s (packetIn w f)) (packet-fine (box w) f (box-sound w s (packetIn w f))))
-sound-is-answered w (handleStream f) d s = fine (subst (λ a. airNumber a ≤ 6) (heard-answer w s (streamIn w f)) (stream-fine (box w) f (box-sound w s (streamIn w f))))
+sound-is-answered w (handleLsf bytes) d s = fine (subst (λ a. airNumber a ≤ 6) (heard-answer w s (lsfIn w bytes)) (lsf-fine (box w) bytes (box-sound w s (lsfIn w bytes)) .at-most-6))
+sound-is-answered w (handlePacket f) d s = fine (subst (λ a. airNumber a ≤ 6) (heard-answer w s (packetIn w f)) (packet-fine (box w) f (box-sound w s (packetIn w f)) .at-most-6))
+sound-is-answered w (handleStream f) d s = fine (subst (λ a. airNumber a ≤ 6) (heard-answer w s (streamIn w f)) (stream-fine (box w) f (box-sound w s (streamIn w f)) .at-most-6))
 sound-is-answered w (setDataCarrierDetect dcd) d s = fine (carrier-fine (w .channel) dcd (s .its-channel))
 sound-is-answered w (setNow samples) d s = fine (now-fine (w .tnc) (w .channel) samples (s .its-tnc) (s .its-channel))
 sound-is-answered w (setTxEndTime samples) d s = fine (end-fine (w .tnc) (w .channel) samples (s .its-tnc) (s .its-channel))

@@ -11,7 +11,7 @@ use Rattle.kiss_buffer.specs.Reader.{STORE as READER}
 use Rattle.packets.specs.Frames.{Packet, AirFrame, joined}
 use Rattle.packets.specs.Queue.{STORE as PACKETS}
 use Rattle.streams.specs.Queue.{STORE as STREAMS}
-use Rattle.state.specs.declared.State.the-variants.{TxStreamSentEndOfStream, TxPacket}
+use Rattle.state.specs.declared.State.the-variants.{TxPacket}
 use Rattle.radio.specs.Radio.{RX, MESSAGE}
 use Rattle.tnc_modulator.specs.declared.TxAnswer.the-variants.{EndOfTransmission}
 use Rattle.tnc_core.specs.Tnc.{newTnc}
@@ -73,6 +73,8 @@ pub record Ends (fs : List StreamFrame) : Type 0 where
   pub its-list : fs ≡ before ++ (last ∷ [])
   pub its-mark : last .«end_of_stream» ≡ true
 
--- where a stream transmission is at its end, the frame read last is marked as last
+-- an end of transmission that ends no packet transmission comes only behind a frame marked as last
 abbrev pub EndBehindTheLast : Type 0
-EndBehindTheLast = (w : World) (cs : List Call) → New w → AllTyped cs → run w cs .tnc .radio .state ≡ TxStreamSentEndOfStream → Ends (streamFramesRead w cs)
+EndBehindTheLast =
+    (w : World) (cs : List Call) → New w → AllTyped cs → run w cs .tnc .radio .state ≢ TxPacket → gives (run w cs) .answer ≡ EndOfTransmission
+    → Ends (streamFramesRead w cs)

@@ -101,7 +101,7 @@ module _ (x : Box) (frame : List ℕ) where
       by (lsf-taken l t) =
           record { its-store = placed-length (decodedOf frame .1) (x .store) LSF (lsf-fits s) ∙ s .its-store; its-state = pending-sound true (x .queue) (s .its-state) }
 
-  push-waiting : Sound x → waiting (afterPush x frame) ≡ waiting x ++ addedBy (pushAnswer x frame) (frameIn frame)
+  pub push-waiting : Sound x → waiting (afterPush x frame) ≡ waiting x ++ addedBy (pushAnswer x frame) (frameIn frame)
   unfolding waiting queued count
   push-waiting s = by outcome
     where
@@ -142,7 +142,7 @@ module _ (x : Box) where
       by (lsf-given t m p) = record { its-store = s .its-store; its-state = pending-sound false (x .queue) (s .its-state) }
       by (frame-given t m p) = record { its-store = s .its-store; its-state = unqueued-sound (x .queue) (s .its-state) }
 
-  read-waiting : waiting x ≡ givenBy (nextOf x .answer) (nextOf x .frame) ++ waiting (afterRead x)
+  pub read-waiting : waiting x ≡ givenBy (nextOf x .answer) (nextOf x .frame) ++ waiting (afterRead x)
   unfolding lsfRead frameRead waiting count
   read-waiting = by (read-outcome (x .queue) (x .store))
     where
