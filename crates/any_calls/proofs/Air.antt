@@ -21,7 +21,6 @@ use Rattle.kiss_buffer.specs.Calls.{soundBuffer}
 use Rattle.state.specs.declared.Reception.{Reception}
 use Rattle.state.specs.declared.Reception.the-variants.{Nothing, Acquiring as Segments, Stream as InStream, Packet as InPacket}
 use Rattle.state.specs.declared.State.{State}
-use Rattle.state.specs.declared.State.the-variants.{TxStreamSentEndOfStream}
 use Rattle.state.specs.State.{transmits, receptionOf}
 use Rattle.radio.specs.declared.Radio.{Radio}
 use Rattle.radio.specs.declared.AirAnswer.{AirAnswer}
@@ -121,18 +120,18 @@ module _ (w : World) (s : Sound w) (h : Heard × List ℕ × List ℕ) where
   pub heard-answer : h .0 .answer ≡ hears w h .0 .answer
   heard-answer = ap (λ (r : TncHeard × List ℕ × List ℕ). r .0 .answer) comes-to
 
--- ---- a frame that is not refused for its stores or record is answered 0 or 6, and leaves no stream sent that was not
+-- ---- a frame that is not refused for its stores or record is answered 0 or 6, and begins no transmission
 
 pub record Fine (r : Radio) (h : Heard) : Type 0 where
   pub at-most-6 : airNumber (h .answer) ≤ 6
-  pub was-sent : h .radio .state ≡ TxStreamSentEndOfStream → r .state ≡ TxStreamSentEndOfStream
+  pub was : (k : State) → transmits k ≡ true → h .radio .state ≡ k → r .state ≡ k
 
 -- with a state in which nothing is sent, and with the state as it was
 off : {r : Radio} {h : Heard} → airNumber (h .answer) ≤ 6 → transmits (h .radio .state) ≡ false → Fine r h
-off n e = record { at-most-6 = n; was-sent = λ f. absurd (false≢true (sym e ∙ ap transmits f)) }
+off n e = record { at-most-6 = n; was = λ k on f. absurd (false≢true (sym e ∙ ap transmits f ∙ on)) }
 
 same : {r : Radio} {h : Heard} → airNumber (h .answer) ≤ 6 → h .radio .state ≡ r .state → Fine r h
-same n e = record { at-most-6 = n; was-sent = λ f. sym e ∙ f }
+same n e = record { at-most-6 = n; was = λ k on f. sym e ∙ f }
 
 fine-sending : (x : Box) (h : Heard × List ℕ × List ℕ) → RadioSound x → Fine (x .radio) (h .0) → Fine (x .radio) (unlessSending (x .radio) (x .rx) (x .out) h .0)
 fine-sending x h s f = by (transmits (x .radio .state)) refl

@@ -1,9 +1,8 @@
 -- Where a stream's last frame was sent, the frame read last was marked as the last, over any calls. Assumes nothing.
-use Prim.Native.Nat.{ℕ, _+_}
+use Prim.Native.Nat.{ℕ}
 use mathlib.Core.Bool.{Bool, true, false, false≢true}
 use mathlib.Core.Path.{_≡_, refl, sym, ap, _∙_, subst}
 use mathlib.Core.List.{List, [], _∷_, _++_, append-nil, append-assoc}
-use lib.Dec.{leb}
 use Rattle.choice.specs.Pick.{pick, pick-all}
 use Rattle.channel.specs.declared.Channel.{Channel}
 use Rattle.protocol.specs.declared.StreamFrame.{StreamFrame}
@@ -17,23 +16,19 @@ use Rattle.streams.specs.Queue.{readNext}
 use Rattle.sending.specs.declared.Sending.{Sending}
 use Rattle.state.specs.declared.State.{State}
 use Rattle.state.specs.declared.State.the-variants.{Idle, RxAcquiringStream, RxStream, RxPacket, TxStream, TxStreamSentEndOfStream, TxPacket, TxEnding, TxEndingAtTime}
-use Rattle.state.specs.State.{transmissionOf, timeReached, endingAt}
-use Rattle.radio.specs.declared.Heard.{Heard}
+use Rattle.state.specs.State.{transmissionOf}
 use Rattle.tnc_modulator.specs.declared.TxRead.{TxRead}
 use Rattle.tnc_modulator.specs.Modulator.{keyedUp, afterStream, streamRead, afterPacket}
 use Rattle.tnc_modulator.proofs.Outcomes.{Passed, none-waits, held-back, keyed-up, in-stream, stream-over, in-packets, ending, sound-outcome}
 use Rattle.tnc_core.specs.declared.Tnc.{Tnc}
-use Rattle.tnc_core.specs.Tnc.{nowSet, endTimeSet}
 use Rattle.tnc.specs.declared.TncTx.{TncTx}
-use Rattle.tnc.specs.declared.TncWritten.{TncWritten}
 use Rattle.tnc.specs.Calls.{putGiven}
-use Rattle.any_calls.specs.Calls.{World, Call, writeKiss, readKiss, handleLsf, handlePacket, handleStream, setDataCarrierDetect, setNow, setTxEndTime, ptt, readTxFrame, writes, reads, hears, lsfIn, packetIn, streamIn, gives, after, run}
+use Rattle.any_calls.specs.Calls.{World, Call, writeKiss, readKiss, handleLsf, handlePacket, handleStream, setDataCarrierDetect, setNow, setTxEndTime, ptt, readTxFrame, gives, after, run}
 use Rattle.any_calls.specs.Promises.{Typed, AllTyped, Sound}
 use Rattle.any_calls.specs.Queues.{inStreams, readIn, overAll}
 use Rattle.any_calls.specs.QueueRule.{Ends}
-use Rattle.any_calls.proofs.Host.{comes-to, each-read}
-use Rattle.any_calls.proofs.Air.{box, box-sound, Fine, each-heard, lsf-fine, packet-fine, stream-fine}
-use Rattle.any_calls.proofs.Kept.{tx, tx-sound, now-leaves, end-leaves, sound-stays-sound}
+use Rattle.any_calls.proofs.Begun.{Reads, begun-by-reads}
+use Rattle.any_calls.proofs.Kept.{tx, tx-sound, sound-stays-sound}
 use Rattle.any_calls.proofs.Packets.{gives-as}
 use Rattle.any_calls.proofs.Streams.{no-frame}
 
@@ -55,46 +50,6 @@ other e f = absurd (false≢true (sym e ∙ ap isSent f))
 
 abbrev Sent : Tnc → Type 0
 Sent t = t .radio .state ≡ TxStreamSentEndOfStream
-
--- ---- calls that read nothing: what is sent now was sent before
-
-time-sent : (s : State) (n : ℕ) → timeReached s n ≡ TxStreamSentEndOfStream → s ≡ TxStreamSentEndOfStream
-time-sent Idle n e = e
-time-sent (RxAcquiringStream mask) n e = e
-time-sent (RxStream expected) n e = e
-time-sent (RxPacket count) n e = e
-time-sent TxStream n e = e
-time-sent TxStreamSentEndOfStream n e = e
-time-sent TxPacket n e = e
-time-sent TxEnding n e = e
-time-sent (TxEndingAtTime end) n e = other (pick-all (λ (s : State). isSent s ≡ false) (leb end n) Idle (TxEndingAtTime end) (λ t. refl) (λ t. refl)) e
-
-end-sent : (s : State) (n : ℕ) → endingAt s n ≡ TxStreamSentEndOfStream → s ≡ TxStreamSentEndOfStream
-end-sent Idle n e = e
-end-sent (RxAcquiringStream mask) n e = e
-end-sent (RxStream expected) n e = e
-end-sent (RxPacket count) n e = e
-end-sent TxStream n e = e
-end-sent TxStreamSentEndOfStream n e = e
-end-sent TxPacket n e = e
-end-sent TxEnding n e = other {s = TxEndingAtTime n} refl e
-end-sent (TxEndingAtTime end) n e = e
-
-module _ (w : World) where
-  heard-sent : (h : Heard × List ℕ × List ℕ) → Fine (w .tnc .radio) (h .0) → Sent (hears w h .0 .tnc) → Sent (w .tnc)
-  heard-sent h f = each-heard w h (λ r. Sent (r .0 .tnc) → Sent (w .tnc)) (λ a e. e) (λ s. f .was-sent)
-
-  write-sent : Sound w → (buf : List ℕ) → Sent (writes w buf .0 .tnc) → Sent (w .tnc)
-  write-sent s buf = subst (λ (r : TncWritten × List ℕ × List ℕ × List ℕ). Sent (r .0 .tnc) → Sent (w .tnc)) (comes-to w s buf) (λ e. e)
-
-  read-sent : (target : List ℕ) → Sent (reads w target .0 .tnc) → Sent (w .tnc)
-  read-sent target = each-read w target (λ r. Sent (r .0 .tnc) → Sent (w .tnc)) (λ r e f. sym (ap (λ (t : Tnc). t .radio .state) e) ∙ f) (λ s e. e)
-
-  now-sent : (n : ℕ) → Sent (nowSet (w .tnc) (w .channel) n .tnc) → Sent (w .tnc)
-  now-sent n = now-leaves (λ t. Sent t → Sent (w .tnc)) (w .tnc) (w .channel) n (λ e. e) (time-sent (w .tnc .radio .state) n)
-
-  endtime-sent : (n : ℕ) → Sent (endTimeSet (w .tnc) (w .channel) n .tnc) → Sent (w .tnc)
-  endtime-sent n = end-leaves (λ t. Sent t → Sent (w .tnc)) (w .tnc) (w .channel) n (λ e. e) (end-sent (w .tnc .radio .state) (w .channel .clock + n))
 
 -- ---- a read
 
@@ -141,29 +96,29 @@ module _ (t : Tnc) (q : Sending) (c : Channel) (ps ss : List ℕ) (fs : List Str
 -- ---- any call
 
 -- a history that reads nothing more
-quiet : {fs : List StreamFrame} {A B : Type 0} → (A → B) → (B → Ends fs) → A → Ends (fs ++ [])
-quiet {fs} f h a = subst Ends (sym (append-nil fs)) (h (f a))
+quiet : (fs : List StreamFrame) (w : World) (c : Call) → Sound w → Reads c ≡ false → (Sent (w .tnc) → Ends fs) → Sent (after w c .tnc) → Ends (fs ++ [])
+quiet fs w c s r h e = subst Ends (sym (append-nil fs)) (h (begun-by-reads TxStreamSentEndOfStream refl (λ n f. other {s = TxEndingAtTime n} refl f) w c s r e))
 
 step : (fs : List StreamFrame) (w : World) (c : Call) → Sound w → (Sent (w .tnc) → Ends fs) → Sent (after w c .tnc) → Ends (fs ++ readIn inStreams w c)
 unfolding after readIn
-step fs w (writeKiss buf) s h = quiet (write-sent w s buf) h
-step fs w (readKiss target) s h = quiet (read-sent w target) h
-step fs w (handleLsf lsf) s h = quiet (heard-sent w (lsfIn w lsf) (lsf-fine (box w) lsf (box-sound w s (lsfIn w lsf)))) h
-step fs w (handlePacket f) s h = quiet (heard-sent w (packetIn w f) (packet-fine (box w) f (box-sound w s (packetIn w f)))) h
-step fs w (handleStream f) s h = quiet (heard-sent w (streamIn w f) (stream-fine (box w) f (box-sound w s (streamIn w f)))) h
-step fs w (setDataCarrierDetect dcd) s h = quiet (λ e. e) h
-step fs w (setNow samples) s h = quiet (now-sent w samples) h
-step fs w (setTxEndTime samples) s h = quiet (endtime-sent w samples) h
-step fs w ptt s h = quiet (λ e. e) h
-step fs w readTxFrame s h =
-    let x = tx w in let e = tx-sound w s in
+step fs w (writeKiss buf) s = quiet fs w (writeKiss buf) s refl
+step fs w (readKiss target) s = quiet fs w (readKiss target) s refl
+step fs w (handleLsf lsf) s = quiet fs w (handleLsf lsf) s refl
+step fs w (handlePacket f) s = quiet fs w (handlePacket f) s refl
+step fs w (handleStream f) s = quiet fs w (handleStream f) s refl
+step fs w (setDataCarrierDetect dcd) s = quiet fs w (setDataCarrierDetect dcd) s refl
+step fs w (setNow samples) s = quiet fs w (setNow samples) s refl
+step fs w (setTxEndTime samples) s = quiet fs w (setTxEndTime samples) s refl
+step fs w ptt s = quiet fs w ptt s refl
+step fs w readTxFrame s =
+    λ h. let x = tx w in let e = tx-sound w s in
     subst (λ (r : TncTx). Sent (r .tnc) → Ends (fs ++ inStreams (transmissionOf (x .state)) r)) (gives-as w s)
     (read-ends (w .tnc) (x .sending) (x .channel) (x .packets) (x .streams) fs (x .state) h
     (sound-outcome (x .sending) (x .channel) (x .packets) (x .streams) (x .state) (e .its-packets) (e .its-streams) (e .its-state)))
 
 pub sent-ends : (fs : List StreamFrame) (w : World) (cs : List Call) → AllTyped cs → Sound w → (Sent (w .tnc) → Ends fs) → Sent (run w cs .tnc) → Ends (fs ++ overAll (readIn inStreams) w cs)
 unfolding overAll run AllTyped
-sent-ends fs w [] d s h e = quiet (λ e. e) h e
+sent-ends fs w [] d s h e = subst Ends (sym (append-nil fs)) (h e)
 sent-ends fs w (c ∷ cs) d s h e =
     subst Ends (append-assoc fs (readIn inStreams w c) (overAll (readIn inStreams) (after w c) cs))
     (sent-ends (fs ++ readIn inStreams w c) (after w c) cs (d .1) (sound-stays-sound w c (d .0) s) (step fs w c s h) e)

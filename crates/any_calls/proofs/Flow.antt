@@ -65,6 +65,27 @@ module _ {A : Type 0} (L : PacketQueue → StreamQueue → List ℕ → List ℕ
   abbrev pub KnownAt : World → Type 0
   KnownAt w = E (w .tnc .sending .packets) (w .tnc .sending .streams)
 
+  -- ---- calls that leave the queues alone
+
+  abbrev pub Same : World → World → Type 0
+  Same w v = (leftAt v ≡ leftAt w) × (KnownAt w → KnownAt v)
+
+  abbrev pub SameQueues : World → Tnc → Type 0
+  SameQueues w t = Same w (withTnc w t)
+
+  pub heard-same : (w : World) (h : Heard × List ℕ × List ℕ) → Same w (afterHeard w (hears w h))
+  heard-same w h = each-heard w h (λ r. Same w (afterHeard w r)) (λ a. (refl, λ k. k)) (λ s. (refl, λ k. k))
+
+  pub read-same : (w : World) (target : List ℕ) → Same w (withTnc w (reads w target .0 .tnc))
+  read-same w target =
+      each-read w target (λ r. SameQueues w (r .0 .tnc)) (λ r e. subst (SameQueues w) (sym e) (refl, λ k. k)) (λ s. (refl, λ k. k))
+
+  pub now-same : (w : World) (n : ℕ) → SameQueues w (nowSet (w .tnc) (w .channel) n .tnc)
+  now-same w n = now-leaves (SameQueues w) (w .tnc) (w .channel) n (refl, λ k. k) (refl, λ k. k)
+
+  pub end-same : (w : World) (n : ℕ) → SameQueues w (endTimeSet (w .tnc) (w .channel) n .tnc)
+  end-same w n = end-leaves (SameQueues w) (w .tnc) (w .channel) n (refl, λ k. k) (refl, λ k. k)
+
   -- a change that adds some behind what was left
   abbrev pub Adds : HostBox → HostBox → List A → Type 0
   Adds x y new = (leftIn y ≡ leftIn x ++ new) × Known y
@@ -155,26 +176,8 @@ module _ {A : Type 0} (L : PacketQueue → StreamQueue → List ℕ → List ℕ
         by-answer NoRoom e = subst (λ (v : World). Grows w v []) (sym (write-refused w buf (λ n. absurd (omega (arith, sym (ap writeNumber e) ∙ n))))) (sym (append-nil (leftAt w)), k)
         by-answer NoState e = subst (λ (v : World). Grows w v []) (sym (write-refused w buf (λ n. absurd (omega (arith, sym (ap writeNumber e) ∙ n))))) (sym (append-nil (leftAt w)), k)
 
-      -- ---- calls that leave the queues alone
-
-      abbrev Same : World → World → Type 0
-      Same w v = (leftAt v ≡ leftAt w) × (KnownAt w → KnownAt v)
-
-      abbrev SameQueues : World → Tnc → Type 0
-      SameQueues w t = Same w (withTnc w t)
-
-      heard-same : (w : World) (h : Heard × List ℕ × List ℕ) → Same w (afterHeard w (hears w h))
-      heard-same w h = each-heard w h (λ r. Same w (afterHeard w r)) (λ a. (refl, λ k. k)) (λ s. (refl, λ k. k))
-
-      read-same : (w : World) (target : List ℕ) → Same w (withTnc w (reads w target .0 .tnc))
-      read-same w target =
-          each-read w target (λ r. SameQueues w (r .0 .tnc)) (λ r e. subst (SameQueues w) (sym e) (refl, λ k. k)) (λ s. (refl, λ k. k))
-
-      now-same : (w : World) (n : ℕ) → SameQueues w (nowSet (w .tnc) (w .channel) n .tnc)
-      now-same w n = now-leaves (SameQueues w) (w .tnc) (w .channel) n (refl, λ k. k) (refl, λ k. k)
-
-      end-same : (w : World) (n : ℕ) → SameQueues w (endTimeSet (w .tnc) (w .channel) n .tnc)
-      end-same w n = end-leaves (SameQueues w) (w .tnc) (w .channel) n (refl, λ k. k) (refl, λ k. k)
+      pub write-known : (w : World) (buf : List ℕ) → Sound w → KnownAt w → KnownAt (afterWrite w (writes w buf))
+      write-known w buf s k = by-answer w buf s k (writes w buf .0 .answer) refl .1
 
       -- ---- any call
 

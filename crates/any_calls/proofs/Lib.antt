@@ -1,8 +1,10 @@
 pub mod Host
 pub mod Air
 pub mod Kept
+pub mod Begun
 pub mod Flow
 pub mod Packets
 pub mod Streams
 pub mod Ended
+pub mod Held
 pub mod Queues

@@ -1,10 +1,11 @@
 -- The promises of specs/QueueRule.antt are kept. Assumes nothing.
 use Prim.Native.Nat.{ℕ}
-use mathlib.Core.Bool.{true, false≢true}
+use mathlib.Core.Bool.{true, false, false≢true}
 use mathlib.Core.Path.{_≡_, refl, sym, ap, _∙_, subst}
-use mathlib.Core.List.{List, [], _++_, append-nil}
+use mathlib.Core.List.{List, [], _∷_, _++_, append-nil}
+use native.Mathlib.Omega.{arith}
 use lib.Dec.{eqb}
-use lib.ListN.{length}
+use lib.ListN.{length, drop}
 use borrow.Author.Tests.{eq-eqb}
 use Rattle.choice.specs.Pick.{pick, and}
 use Rattle.channel.specs.declared.Channel.{Channel}
@@ -13,12 +14,16 @@ use Rattle.channel.proofs.Kept as channel
 use Rattle.protocol.specs.declared.StreamFrame.{StreamFrame}
 use Rattle.kiss_buffer.specs.Calls.{soundBuffer}
 use Rattle.kiss_buffer.proofs.Boxes.{new-sound}
-use Rattle.packets.specs.Frames.{AirFrame, joined}
-use Rattle.packets.specs.Queue.{readNext}
+use Rattle.packets.specs.declared.PacketRead.{PacketRead}
+use Rattle.packets.specs.declared.ReadAnswer.{ReadAnswer}
+use Rattle.packets.specs.declared.ReadAnswer.the-variants.{Nothing as NoPiece, Lsf as PacketLsf, Packet as Piece, End, WrongStore as NoPacketStore, OutOfBounds as NoPacketState}
+use Rattle.packets.specs.Frames.{AirFrame, setup, piece, joined}
+use Rattle.packets.specs.Queue.{isEmpty, readNext, framesIn}
 use Rattle.packets.specs.Promises.{Sound as PacketsSound}
 use Rattle.packet_rule.specs.Left.{leftOf}
 use Rattle.packet_rule.specs.Promises.{Four, given}
-use Rattle.packet_rule.proofs.Kept.{new-has-none, new-has-four, end-is-used-up, something-is-given}
+use Rattle.packet_rule.proofs.Kept.{new-has-none, new-has-four, read-takes, end-is-used-up, something-is-given}
+use Rattle.packet_rule.proofs.Held.{held-is-answered}
 use Rattle.streams.specs.Queue.{newQueue as noStreams}
 use Rattle.streams.specs.Promises.{count, framesFrom, waiting}
 use Rattle.state.specs.declared.State.the-variants.{TxStreamSentEndOfStream, TxPacket}
@@ -26,7 +31,7 @@ use Rattle.state.specs.declared.Transmission.{Transmission}
 use Rattle.state.specs.State.{transmissionOf}
 use Rattle.tnc_modulator.specs.declared.TxAnswer.the-variants.{EndOfTransmission}
 use Rattle.tnc_modulator.specs.declared.TxRead.{TxRead}
-use Rattle.tnc_modulator.specs.Modulator.{PACKETS, STREAMS, allSound, packetGiven, packetRead, txRead}
+use Rattle.tnc_modulator.specs.Modulator.{PACKETS, STREAMS, allSound, packetAnswer, packetGiven, packetRead, txRead, txNumber}
 use Rattle.tnc_modulator.specs.Promises.{readOf, Spent, stream-spent, packets-spent}
 use Rattle.tnc_modulator.proofs.Kept as modulator
 use Rattle.tnc_modulator.proofs.Outcomes.{sound-packets}
@@ -38,11 +43,12 @@ use Rattle.tnc.specs.Calls.{putGiven}
 use Rattle.any_calls.specs.Calls.{World, Call, readTxFrame, gives, run}
 use Rattle.any_calls.specs.Promises.{Sound, AllTyped}
 use Rattle.any_calls.specs.Queues.{packetFrame, inPackets, readIn}
-use Rattle.any_calls.specs.QueueRule.{New, accepted, framesRead, QueueRule, EndWhenUsedUp, SomethingLeftIsGiven, streamsAccepted, streamFramesRead, StreamRule, Ends, EndBehindTheLast}
-use Rattle.any_calls.proofs.Kept.{tx, tx-sound, run-sound}
+use Rattle.any_calls.specs.QueueRule.{New, NeverOutOfBounds, accepted, framesRead, QueueRule, EndWhenUsedUp, SomethingLeftIsGiven, EndOnceUsedUp, streamsAccepted, streamFramesRead, StreamRule, Ends, EndBehindTheLast}
+use Rattle.any_calls.proofs.Kept.{tx, tx-sound, run-sound, any-calls-stay-sound}
 use Rattle.any_calls.proofs.Packets.{gives-as, frame-as, packets-flow}
 use Rattle.any_calls.proofs.Streams.{queueBox, streams-flow}
 use Rattle.any_calls.proofs.Ended.{isSent, sent-ends}
+use Rattle.any_calls.proofs.Held.{isPacket, held}
 
 -- ---- a new TNC
 
@@ -72,6 +78,12 @@ module _ (w : World) (n : New w) where
 
   not-sent : w .tnc .radio .state ≡ TxStreamSentEndOfStream → ⊥
   not-sent e = false≢true (sym (ap (λ (t : Tnc). isSent (t .radio .state)) (n .its-tnc)) ∙ ap isSent e)
+
+  not-begun : w .tnc .radio .state ≡ TxPacket → ⊥
+  not-begun e = false≢true (sym (ap (λ (t : Tnc). isPacket (t .radio .state)) (n .its-tnc)) ∙ ap isPacket e)
+
+pub never-out-of-bounds : NeverOutOfBounds
+never-out-of-bounds w cs c n d e = let k = any-calls-stay-sound w cs c d e (new-is-sound w n) in (k .1, k .2)
 
 -- ---- packets
 
@@ -127,6 +139,44 @@ something-left-is-given w cs n d p some = (
       something-is-given (run w cs .tnc .sending .packets) (run w cs .packets) (queue-sound (run w cs) s) (λ e. some (used-up w cs n d e)) (sym (reads-of-it (run w cs) s p) ∙ none),
   λ e. some (end-when-used-up w cs n d p e),
 )
+
+-- a list that grows by nothing more than itself has grown by nothing
+grown-by-none : (fs gs : List AirFrame) → fs ++ gs ≡ fs → gs ≡ []
+grown-by-none [] gs e = e
+grown-by-none (f ∷ fs) gs e = grown-by-none fs gs (ap (λ (l : List AirFrame). drop 1 l) e)
+
+-- something stands first
+not-none : (f : AirFrame) (fs : List AirFrame) → f ∷ fs ≡ [] → ⊥
+not-none f fs e = let h : length (f ∷ fs) ≡ 0 = ap length e in absurd (omega arith)
+
+module _ (w : World) (s : Sound w) (p : w .tnc .radio .state ≡ TxPacket) (held-on : isEmpty (w .tnc .sending .packets) ≡ false)
+    (none : leftOf (w .tnc .sending .packets) (w .packets) ≡ [])
+  where
+    abbrev next : PacketRead
+    next = readNext (w .tnc .sending .packets) (w .packets)
+
+    takes : given next ++ leftOf (next .queue) (w .packets) ≡ []
+    takes = sym (read-takes (w .tnc .sending .packets) (w .packets) (queue-sound w s)) ∙ none
+
+    answered : txNumber (packetAnswer (next .answer)) ≡ 0
+    answered = ap (λ (r : TxRead). txNumber (r .answer)) (sym (in-packets w s p)) ∙ modulator.sound-is-answered (tx w) (tx-sound w s)
+
+    -- what is left is none, so the answer is no frame; a place is held, so it is not nothing
+    ends : (a : ReadAnswer) → next .answer ≡ a → packetAnswer a ≡ EndOfTransmission
+    ends NoPiece e = absurd (held-is-answered (w .tnc .sending .packets) (w .packets) held-on e)
+    ends PacketLsf e = absurd (not-none (setup (next .lsf .0)) _ (ap (λ (k : ReadAnswer). framesIn k next ++ leftOf (next .queue) (w .packets)) (sym e) ∙ takes))
+    ends Piece e = absurd (not-none (piece (next .frame)) _ (ap (λ (k : ReadAnswer). framesIn k next ++ leftOf (next .queue) (w .packets)) (sym e) ∙ takes))
+    ends End e = refl
+    ends NoPacketStore e = absurd (omega (arith, sym (ap (λ (k : ReadAnswer). txNumber (packetAnswer k)) e) ∙ answered))
+    ends NoPacketState e = absurd (omega (arith, sym (ap (λ (k : ReadAnswer). txNumber (packetAnswer k)) e) ∙ answered))
+
+    end-given : gives w .answer ≡ EndOfTransmission
+    end-given = sym (ap (λ (r : TncTx). r .answer) (gives-as w s)) ∙ ap (λ (r : TxRead). r .answer) (in-packets w s p) ∙ ends (next .answer) refl
+
+pub end-once-used-up : EndOnceUsedUp
+end-once-used-up w cs n d p e =
+    let s = new-is-sound w n in
+    end-given (run w cs) (run-sound w cs d s) p (held w cs d s (λ f. absurd (not-begun w n f)) p) (grown-by-none (framesRead w cs) (leftAfter w cs) (sym (packets-are w cs n d) ∙ e))
 
 -- ---- streams
 

@@ -15,8 +15,8 @@ use Rattle.state.specs.declared.State.the-variants.{TxPacket}
 use Rattle.radio.specs.Radio.{RX, MESSAGE}
 use Rattle.tnc_modulator.specs.declared.TxAnswer.the-variants.{EndOfTransmission}
 use Rattle.tnc_core.specs.Tnc.{newTnc}
-use Rattle.any_calls.specs.Calls.{World, Call, readTxFrame, gives, run}
-use Rattle.any_calls.specs.Promises.{AllTyped}
+use Rattle.any_calls.specs.Calls.{World, Call, readTxFrame, gives, number, run}
+use Rattle.any_calls.specs.Promises.{Typed, AllTyped}
 use Rattle.any_calls.specs.Queues.{packetsIn, streamsIn, brings, inPackets, inStreams, readIn, overAll}
 
 -- a new TNC and channel, and stores of their lengths
@@ -28,6 +28,10 @@ pub record New (w : World) : Type 0 where
   pub its-streams : length (w .streams) ≡ STREAMS
   pub its-rx : length (w .rx) ≡ RX
   pub its-message : length (w .message) ≡ MESSAGE
+
+-- from it no call sequence ever answers 7 or 8
+abbrev pub NeverOutOfBounds : Type 0
+NeverOutOfBounds = (w : World) (cs : List Call) (c : Call) → New w → AllTyped cs → Typed c → (number (run w cs) c ≢ 7) × (number (run w cs) c ≢ 8)
 
 -- ---- packets
 
@@ -53,6 +57,12 @@ abbrev pub SomethingLeftIsGiven : Type 0
 SomethingLeftIsGiven =
     (w : World) (cs : List Call) → New w → AllTyped cs → run w cs .tnc .radio .state ≡ TxPacket → joined (accepted w cs) ≢ framesRead w cs
     → (readIn inPackets (run w cs) readTxFrame ≢ []) × (gives (run w cs) .answer ≢ EndOfTransmission)
+
+-- and with nothing left it gives the end: nobody stays keyed with nothing to send
+abbrev pub EndOnceUsedUp : Type 0
+EndOnceUsedUp =
+    (w : World) (cs : List Call) → New w → AllTyped cs → run w cs .tnc .radio .state ≡ TxPacket → joined (accepted w cs) ≡ framesRead w cs
+    → gives (run w cs) .answer ≡ EndOfTransmission
 
 -- ---- streams
 

@@ -2,4 +2,5 @@ pub mod Ring
 pub mod Rests
 pub mod Walked
 pub mod Added
+pub mod Held
 pub mod Kept

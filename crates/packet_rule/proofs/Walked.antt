@@ -84,7 +84,7 @@ pub record Takes (q : PacketQueue) (store : List ℕ) (r : PacketRead) : Type 0 
   pub kept : leftOf q store ≡ given r ++ leftOf (r .queue) store
   pub used-up : given r ≡ [] → leftOf q store ≡ []
 
-one-is-some : (f : AirFrame) → (f ∷ [] ≡ []) → ⊥
+pub one-is-some : (f : AirFrame) → (f ∷ [] ≡ []) → ⊥
 one-is-some f e = let h : length (f ∷ []) ≡ 0 = ap length e in absurd (omega arith)
 
 module _ (store : List ℕ) where

@@ -11,7 +11,7 @@ use Rattle.packets.specs.declared.Pushed.{Pushed}
 use Rattle.packets.specs.declared.PacketRead.{PacketRead}
 use Rattle.packets.specs.declared.ReadAnswer.the-variants.{Nothing, End}
 use Rattle.packets.specs.Frames.{AirFrame, setup, piece, joined}
-use Rattle.packets.specs.Queue.{Made, noPacket, newQueue, madeBasic, madeFull, pushedBasic, pushedFull, readNext, framesIn}
+use Rattle.packets.specs.Queue.{Made, noPacket, newQueue, madeBasic, madeFull, isEmpty, pushedBasic, pushedFull, readNext, framesIn}
 use Rattle.packets.specs.Promises.{Sound}
 use Rattle.packet_rule.specs.Left.{leftOf, acceptedBy}
 
@@ -66,6 +66,21 @@ NothingIsUsedUp = (q : PacketQueue) (store : List ℕ) → Sound q store → rea
 -- while something is left a read gives a frame, and so no end
 abbrev pub SomethingIsGiven : Type 0
 SomethingIsGiven = (q : PacketQueue) (store : List ℕ) → Sound q store → leftOf q store ≢ [] → given (readNext q store) ≢ []
+
+-- ---- a place is held until the read behind its last frame
+
+-- a queue in which a place is held is not emptied by a push, nor by a read that gives a frame
+abbrev pub PushNeverEmpties : Type 0
+PushNeverEmpties =
+    (q : PacketQueue) (store frame : List ℕ) → isEmpty q ≡ false
+    → (isEmpty (pushedBasic q frame store .0 .queue) ≡ false) × (isEmpty (pushedFull q frame store .0 .queue) ≡ false)
+
+abbrev pub FrameKeepsItsPlace : Type 0
+FrameKeepsItsPlace = (q : PacketQueue) (store : List ℕ) → given (readNext q store) ≢ [] → isEmpty (readNext q store .queue) ≡ false
+
+-- and while a place is held a read gives a frame or the end, and never nothing
+abbrev pub HeldIsAnswered : Type 0
+HeldIsAnswered = (q : PacketQueue) (store : List ℕ) → isEmpty q ≡ false → readNext q store .answer ≢ Nothing
 
 -- ---- an example
 
