@@ -8,3 +8,4 @@ pub mod Streams
 pub mod Ended
 pub mod Held
 pub mod Queues
+pub mod Determined
