@@ -4,3 +4,4 @@ pub mod Walked
 pub mod Added
 pub mod Held
 pub mod Kept
+pub mod Wrong
