@@ -189,7 +189,7 @@ fn give_packet(sending: Sending, channel: Channel, packets: &[u8]) -> TxRead
 {
     let queue = sending.packets;
     let streams = sending.streams;
-    let read = queue.read_next(packets);
+    let read = packet_read::read_next(queue, packets);
     let answer = read.answer;
     let lsf = read.lsf;
     let frame = read.frame;
