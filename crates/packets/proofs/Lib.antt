@@ -1,5 +1,4 @@
 pub mod Bounds
-pub mod Walks
 pub mod Rooms
 pub mod Decoding
 pub mod Cases

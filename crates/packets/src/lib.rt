@@ -1,18 +1,16 @@
-// The packets that wait for transmission, as m17core's TNC queues them and cuts them into frames. A queue is a record of four places; the bytes of place k
-// stand in a store that the caller lends, its LSF at 855 k and its data at 855 k + 30.
+// The packets that wait for transmission, as m17core's TNC queues them; `packet_read` cuts them into frames. A queue is a record of four places; the bytes of
+// place k stand in a store that the caller lends, its LSF at 855 k and its data at 855 k + 30.
 use kiss_read::Decoded;
 use kiss_read::decode_payload;
 use protocol::LsfFrame;
 use protocol::PacketFrame;
-use protocol::PacketFrameCounter;
 ghost use mathlib.Core.Path.{_≡_};
-ghost use mathlib.Core.Bool.{true};
 ghost use Prim.Native.Nat.{_+_, _*_, _≤_, _<_};
 ghost use lib.ListN.{length};
 ghost use Rattle.kiss_read.specs.Read.{decoded};
 ghost use Rattle.packets.specs.declared.PushAnswer.the-variants.{Queued};
-ghost use Rattle.packets.specs.Frames.{zeros, chunk};
-ghost use Rattle.packets.specs.Queue.{ROOM, STORE, newQueue, soundQueue, isEmpty, withPacket, pushedBasic, pushedFull, lsfRead, dataRead, walk, notRead, readNext};
+ghost use Rattle.packets.specs.Frames.{zeros};
+ghost use Rattle.packets.specs.Queue.{ROOM, STORE, newQueue, soundQueue, isEmpty, withPacket, pushedBasic, pushedFull};
 ghost use Rattle.packets.specs.Inside.{isPayload, decodedAt, sealedAt};
 
 // The bytes of a packet's data, type and CRC among them.
@@ -59,6 +57,7 @@ pub struct Pushed {
     pub queue: PacketQueue,
 }
 
+// A read and its answer are declared here and not in `packet_read`, since the definitions and promises of specs/ speak of reads too.
 pub enum ReadAnswer {
     Nothing,
     Lsf,
@@ -184,115 +183,6 @@ impl PacketQueue {
         self.accepted(n - 30)
     }
 
-    // A read in a packet transmission: the next frame of the packets that wait, or the end once all of them are spent.
-    pub fn read_next(self, store: &[u8]) -> PacketRead
-        ensures { λ r. ⌜ r ≡ readNext self (now (store .entry)) ⌝ }
-    {
-        if store.len() != STORE_LEN {
-            return self.not_read(ReadAnswer::WrongStore);
-        }
-        if !self.is_sound() {
-            return self.not_read(ReadAnswer::OutOfBounds);
-        }
-        if self.is_empty() {
-            return self.not_read(ReadAnswer::Nothing);
-        }
-        self.next_frame(store)
-    }
-
-    // Passes over the places that are spent. Such a place is free from here on, so that a full queue has room again.
-    fn next_frame(self, store: &[u8]) -> PacketRead
-        requires { ⌜ (length (now store) ≡ STORE) × (soundQueue self ≡ true) ⌝ }
-        ensures { λ r. ⌜ r ≡ walk 4 self (now (store .entry)) ⌝ }
-    {
-        let mut queue = self;
-        let mut left: usize = 4;
-        loop {
-            if left == 0 {
-                break queue.not_read(ReadAnswer::End);
-            }
-            if queue.is_empty() {
-                break queue.not_read(ReadAnswer::End);
-            }
-            let curr = queue.curr;
-            let place = queue.places[curr];
-            if place.due {
-                break queue.lsf_read(store);
-            }
-            if place.sent != place.len {
-                break queue.data_read(store);
-            }
-            queue.curr = (curr + 1) % 4;
-            queue.full = false;
-            left -= 1;
-        }
-    }
-
-    fn lsf_read(self, store: &[u8]) -> PacketRead
-        requires { ⌜ (length (now store) ≡ STORE) × (soundQueue self ≡ true) ⌝ }
-        ensures { λ r. ⌜ r ≡ lsfRead self (now (store .entry)) ⌝ }
-    {
-        let mut queue = self;
-        let curr = queue.curr;
-        let mut place = queue.places[curr];
-        place.due = false;
-        queue.places[curr] = place;
-        let at = ROOM_LEN * curr;
-        let end = at + 30;
-        let mut lsf = [0u8; 30];
-        store::copy_in(&store[at..end], &mut lsf, 0);
-        PacketRead {
-            answer: ReadAnswer::Lsf,
-            lsf: LsfFrame(lsf),
-            frame: PacketFrame {
-                payload: [0u8; 25],
-                counter: PacketFrameCounter::Frame { index: 0 },
-            },
-            queue: queue,
-        }
-    }
-
-    fn data_read(self, store: &[u8]) -> PacketRead
-        requires { ⌜ (length (now store) ≡ STORE) × (soundQueue self ≡ true) ⌝ }
-        ensures { λ r. ⌜ r ≡ dataRead self (now (store .entry)) ⌝ }
-    {
-        let mut queue = self;
-        let curr = queue.curr;
-        let mut place = queue.places[curr];
-        let sent = place.sent;
-        let rest = place.len - sent;
-        let from = ROOM_LEN * curr + 30 + sent;
-        let end = from + rest;
-        let frame = first_frame(&store[from..end], sent / 25);
-        let mut count = rest;
-        if 25 < count {
-            count = 25;
-        }
-        place.sent = sent + count;
-        queue.places[curr] = place;
-        PacketRead {
-            answer: ReadAnswer::Packet,
-            lsf: LsfFrame([0u8; 30]),
-            frame: frame,
-            queue: queue,
-        }
-    }
-
-    // No frame: its bytes are all zero.
-    fn not_read(self, answer: ReadAnswer) -> PacketRead
-        ensures { λ r. ⌜ r ≡ notRead answer self ⌝ }
-    {
-        PacketRead {
-            answer: answer,
-            lsf: LsfFrame([0u8; 30]),
-            frame: PacketFrame {
-                payload: [0u8; 25],
-                counter: PacketFrameCounter::Frame { index: 0 },
-            },
-            queue: self,
-        }
-    }
-
     // One packet more waits, with len bytes of data.
     fn accepted(mut self, len: usize) -> Pushed
         requires { ⌜ self .next < 4 ⌝ }
@@ -358,25 +248,4 @@ fn seal(store: &mut [u8], at: usize, n: usize)
     let crc = crc::m17_crc(&store[from..end]);
     store[end] = (crc / 256) as u8;
     store[end + 1] = (crc % 256) as u8;
-}
-
-// The first frame of a packet's data, or of what is left of it, where its index is the one given: 25 bytes, or as the final frame all of them.
-fn first_frame(bytes: &[u8], index: usize) -> PacketFrame
-    ensures { λ r. ⌜ r ≡ chunk index (now (bytes .entry)) ⌝ }
-{
-    let mut payload = [0u8; 25];
-    if 25 < bytes.len() {
-        store::copy_in(&bytes[..25], &mut payload, 0);
-        return PacketFrame {
-            payload: payload,
-            counter: PacketFrameCounter::Frame { index: index },
-        };
-    }
-    store::copy_in(bytes, &mut payload, 0);
-    PacketFrame {
-        payload: payload,
-        counter: PacketFrameCounter::FinalFrame {
-            payload_len: bytes.len(),
-        },
-    }
 }

@@ -1,5 +1,6 @@
-// The queue of stream frames that wait to be sent, and the LSF that goes before them, as m17core's tnc.rs has them. They stand in a store of 230 bytes that the caller
-// lends: eight frames of 25 bytes, then the LSF. Bytes at fixed places, since an array of frames that hold arrays is costly to pass by value, and to prove.
+// The queue of stream frames that wait to be sent, and the LSF that goes before them, as m17core's tnc.rs has them; `stream_read` reads them. They stand in a store of
+// 230 bytes that the caller lends: eight frames of 25 bytes, then the LSF. Bytes at fixed places, since an array of frames that hold arrays is costly to pass by
+// value, and to prove.
 use kiss_read::Decoded;
 use kiss_read::decode_payload;
 use protocol::LsfFrame;
@@ -8,17 +9,17 @@ ghost use mathlib.Core.Bool.{true};
 ghost use mathlib.Core.Path.{_≡_};
 ghost use lib.ListN.{length};
 ghost use Rattle.kiss_build.specs.Stream.{streamOf};
-ghost use Rattle.streams.specs.Layout.{FRAME, bytesOf, frameOf};
-ghost use Rattle.streams.specs.Queue.{STORE, newQueue, soundQueue, emptyQueue, dataPushed, lsfPushed, pushed, noFrame, notRead, lsfRead, frameRead, readNext};
+ghost use Rattle.streams.specs.Layout.{bytesOf};
+ghost use Rattle.streams.specs.Queue.{STORE, newQueue, soundQueue, emptyQueue, dataPushed, lsfPushed, pushed};
 
 pub const STREAM_STORE_LEN: usize = 230;
 
-const PLACES: usize = 8;
+pub const PLACES: usize = 8;
 
-const FRAME_LEN: usize = 25;
+pub const FRAME_LEN: usize = 25;
 
 // Where the LSF that waits stands.
-const LSF_AT: usize = 200;
+pub const LSF_AT: usize = 200;
 
 pub struct StreamQueue {
     // The place that the next frame is put into, and that of the first one that waits. Equal places are an empty queue, or a full one.
@@ -43,6 +44,7 @@ pub struct StreamPushed {
     pub queue: StreamQueue,
 }
 
+// A read and its answer are declared here and not in `stream_read`, since the definitions and promises of specs/ speak of reads too.
 pub enum StreamReadAnswer {
     Nothing,
     Lsf,
@@ -120,58 +122,6 @@ impl StreamQueue {
         }
     }
 
-    // The next frame for the modulator in a stream transmission. Nothing while no frame waits, even where an LSF does: it goes out once there is data behind it.
-    pub fn read_next(self, store: &[u8]) -> StreamRead
-        ensures { λ r. ⌜ r ≡ readNext self (now (store .entry)) ⌝ }
-    {
-        if store.len() != STREAM_STORE_LEN {
-            return nothing(StreamReadAnswer::WrongStore, self);
-        }
-        if !self.is_sound() {
-            return nothing(StreamReadAnswer::OutOfBounds, self);
-        }
-        if self.is_empty() {
-            return nothing(StreamReadAnswer::Nothing, self);
-        }
-        if self.pending {
-            return self.read_lsf(store);
-        }
-        self.read_frame(store)
-    }
-
-    fn read_lsf(mut self, store: &[u8]) -> StreamRead
-        requires { ⌜ length (now store) ≡ STORE ⌝ }
-        ensures { λ r. ⌜ r ≡ lsfRead self (now (store .entry)) ⌝ }
-    {
-        let mut bytes = [0u8; 30];
-        store::copy_in(&store[LSF_AT..STREAM_STORE_LEN], &mut bytes, 0);
-        self.pending = false;
-        StreamRead {
-            answer: StreamReadAnswer::Lsf,
-            lsf: LsfFrame(bytes),
-            frame: no_frame(),
-            queue: self,
-        }
-    }
-
-    fn read_frame(mut self, store: &[u8]) -> StreamRead
-        requires { ⌜ (soundQueue self ≡ true) × (length (now store) ≡ STORE) ⌝ }
-        ensures { λ r. ⌜ r ≡ frameRead self (now (store .entry)) ⌝ }
-    {
-        let curr = self.curr;
-        let at = FRAME_LEN * curr;
-        let end = at + FRAME_LEN;
-        let frame = frame_of(&store[at..end]);
-        self.curr = (curr + 1) % PLACES;
-        self.full = false;
-        StreamRead {
-            answer: StreamReadAnswer::Frame,
-            lsf: LsfFrame([0u8; 30]),
-            frame: frame,
-            queue: self,
-        }
-    }
-
     // A full queue stops data. Neither its CRC nor its LICH index is checked.
     fn push_data(mut self, payload: [u8; 30], store: &mut [u8]) -> StreamPushed
         requires { ⌜ (soundQueue self ≡ true) × (length (now store) ≡ STORE) ⌝ }
@@ -218,30 +168,6 @@ fn unchanged(answer: StreamAnswer, queue: StreamQueue) -> StreamPushed
     }
 }
 
-// An answer with no LSF and no frame.
-fn nothing(answer: StreamReadAnswer, queue: StreamQueue) -> StreamRead
-    ensures { λ r. ⌜ r ≡ notRead answer queue ⌝ }
-{
-    StreamRead {
-        answer: answer,
-        lsf: LsfFrame([0u8; 30]),
-        frame: no_frame(),
-        queue: queue,
-    }
-}
-
-fn no_frame() -> StreamFrame
-    ensures { λ r. ⌜ r ≡ noFrame ⌝ }
-{
-    StreamFrame {
-        lich_idx: 0,
-        lich_part: [0u8; 5],
-        frame_number: 0,
-        end_of_stream: false,
-        stream_data: [0u8; 16],
-    }
-}
-
 // The bytes to be stored of what a data payload stands for. The LICH index has the top three bits of its byte, and the top bit of the number marks the end.
 fn frame_bytes(payload: [u8; 30]) -> [u8; 25]
     ensures { λ r. ⌜ r ≡ bytesOf (streamOf payload) ⌝ }
@@ -254,21 +180,4 @@ fn frame_bytes(payload: [u8; 30]) -> [u8; 25]
     bytes[8] = payload[6] / 128;
     store::copy_in(&payload[8..24], &mut bytes, 9);
     bytes
-}
-
-fn frame_of(bytes: &[u8]) -> StreamFrame
-    requires { ⌜ length (now bytes) ≡ FRAME ⌝ }
-    ensures { λ r. ⌜ r ≡ frameOf (now (bytes .entry)) ⌝ }
-{
-    let mut lich = [0u8; 5];
-    store::copy_in(&bytes[1..6], &mut lich, 0);
-    let mut voice = [0u8; 16];
-    store::copy_in(&bytes[9..25], &mut voice, 0);
-    StreamFrame {
-        lich_idx: bytes[0],
-        lich_part: lich,
-        frame_number: (bytes[6] as u16) * 256 + (bytes[7] as u16),
-        end_of_stream: bytes[8] != 0,
-        stream_data: voice,
-    }
 }

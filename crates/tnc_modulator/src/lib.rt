@@ -132,7 +132,7 @@ fn give_stream(sending: Sending, channel: Channel, streams: &[u8]) -> TxRead
 {
     let queue = sending.streams;
     let packets = sending.packets;
-    let read = queue.read_next(streams);
+    let read = stream_read::read_next(queue, streams);
     let answer = read.answer;
     let lsf = read.lsf;
     let frame = read.frame;
@@ -189,7 +189,7 @@ fn give_packet(sending: Sending, channel: Channel, packets: &[u8]) -> TxRead
 {
     let queue = sending.packets;
     let streams = sending.streams;
-    let read = queue.read_next(packets);
+    let read = packet_read::read_next(queue, packets);
     let answer = read.answer;
     let lsf = read.lsf;
     let frame = read.frame;

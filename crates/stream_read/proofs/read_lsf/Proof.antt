@@ -1,4 +1,4 @@
--- `streams::StreamQueue::read_lsf` meets its contract. Assumes nothing.
+-- `stream_read::read_lsf` meets its contract. Assumes nothing.
 use Prim.Native.Nat.{ℕ}
 use mathlib.Core.Path.{_≡_, _∙_}
 use mathlib.Core.List.{List}
@@ -9,9 +9,9 @@ use lib.Seq.{length-take-le}
 use Rattle.store.proofs.Runs.{put-all}
 use Rattle.store.proofs.Copies.{copied-in}
 use Rattle.protocol.specs.Lsf.{part}
 use Rattle.streams.specs.Queue.{LSF, lsfRead}
-use Rattle.streams.proofs.StreamQueue.read_lsf.Statement.{statement}
-use Rattle.streams.proofs.StreamQueue.read_lsf.Tie as tie
+use Rattle.stream_read.proofs.read_lsf.Statement.{statement}
+use Rattle.stream_read.proofs.read_lsf.Tie as tie
 
 returns : tie.Need-returns
 unfolding lsfRead

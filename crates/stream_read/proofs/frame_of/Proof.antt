@@ -1,4 +1,4 @@
--- `streams::frame_of` meets its contract. Assumes nothing.
+-- `stream_read::frame_of` meets its contract. Assumes nothing.
 use Prim.Native.Nat.{ℕ, _+_, _*_}
 use mathlib.Core.Bool.{not}
 use mathlib.Core.Path.{_≡_, _∙_}
@@ -11,9 +11,9 @@ use lib.Seq.{length-take-le}
 use Rattle.store.proofs.Runs.{put-all}
 use Rattle.store.proofs.Copies.{copied-in}
 use Rattle.protocol.specs.Lsf.{part}
 use Rattle.streams.specs.Layout.{frameOf}
-use Rattle.streams.proofs.frame_of.Statement.{statement}
-use Rattle.streams.proofs.frame_of.Tie as tie
+use Rattle.stream_read.proofs.frame_of.Statement.{statement}
+use Rattle.stream_read.proofs.frame_of.Tie as tie
 
 returns : tie.Need-returns
 unfolding frameOf

@@ -1,4 +1,4 @@
--- `packets::PacketQueue::data_read` meets its contract. Assumes nothing.
+-- `packet_read::data_read` meets its contract. Assumes nothing.
 use Prim.Native.Nat.{ℕ, _+_, _-_, _*_, _/_, min}
 use mathlib.Core.Logic.{⊎-elim}
 use mathlib.Core.Path.{_≡_, ap, _∙_}
@@ -6,23 +6,23 @@ use native.Mathlib.Omega.{arith}
 use borrow.Author.Needs.{needs}
 use lib.ListN.{replicate}
 use Rattle.protocol.specs.Lsf.{part}
 use Rattle.packets.specs.declared.ReadAnswer.the-variants.{Packet}
 use Rattle.packets.specs.Frames.{chunk}
 use Rattle.packets.specs.Queue.{ROOM, here, withPlace, dataRead}
 use Rattle.packets.proofs.Bounds.{Here, at-here}
-use Rattle.packets.proofs.PacketQueue.data_read.Statement.{statement}
-use Rattle.packets.proofs.PacketQueue.data_read.Tie as tie
+use Rattle.packet_read.proofs.data_read.Statement.{statement}
+use Rattle.packet_read.proofs.data_read.Tie as tie
 
-around : (s : tie.Start) → Here (s .args .self)
-around s = at-here (s .args .self) (s .pre .1)
+around : (s : tie.Start) → Here (s .args .queue)
+around s = at-here (s .args .queue) (s .pre .1)
 
-counted : (c : tie.Joined1) → let q = c .before .before .before .before .before .before .args .self in c .if1 .count ≡ min 25 (here q .len - here q .sent)
+counted : (c : tie.Joined1) → let q = c .before .before .before .before .before .before .args .queue in c .if1 .count ≡ min 25 (here q .len - here q .sent)
 counted c = ⊎-elim (λ w. omega arith) (λ w. omega arith) (c .if1 .came)
 
 returns : tie.Need-returns
 unfolding dataRead withPlace
 returns c =
-    let s = c .before .before .before .before .before .before in let q = s .args .self in let d = s .args .store .now in
+    let s = c .before .before .before .before .before .before in let q = s .args .queue in let d = s .args .store .now in
     let from : ℕ = ROOM * q .curr + 30 + here q .sent in
     let n : from + (here q .len - here q .sent) - from ≡ here q .len - here q .sent = omega arith in
     let f = c .before .first-frame .ensures ∙ ap (λ (k : ℕ). chunk (here q .sent / 25) (part from k d)) n in

@@ -1,4 +1,4 @@
--- `packets::PacketQueue::lsf_read` meets its contract. Assumes nothing.
+-- `packet_read::lsf_read` meets its contract. Assumes nothing.
 use Prim.Native.Nat.{ℕ, _+_, _-_, _*_, _<_}
 use mathlib.Core.Path.{_≡_, ap, _∙_}
 use native.Mathlib.Omega.{arith}
@@ -7,18 +7,18 @@ use lib.ListN.{length, replicate, length-take, length-drop}
 use Rattle.store.proofs.Copies.{copied-in}
 use Rattle.store.proofs.Runs.{put-all}
 use Rattle.protocol.specs.Lsf.{part}
 use Rattle.packets.specs.Queue.{ROOM, withPlace, lsfRead}
 use Rattle.packets.proofs.Bounds.{at-here}
-use Rattle.packets.proofs.PacketQueue.lsf_read.Statement.{statement}
-use Rattle.packets.proofs.PacketQueue.lsf_read.Tie as tie
+use Rattle.packet_read.proofs.lsf_read.Statement.{statement}
+use Rattle.packet_read.proofs.lsf_read.Tie as tie
 
-below : (s : tie.Start) → s .args .self .curr < 4
-below s = at-here (s .args .self) (s .pre .1) .curr
+below : (s : tie.Start) → s .args .queue .curr < 4
+below s = at-here (s .args .queue) (s .pre .1) .curr
 
 returns : tie.Need-returns
 unfolding lsfRead withPlace
 returns c =
-    let s = c .before .before .before .before .before .before in let d = s .args .store .now in let at : ℕ = ROOM * s .args .self .curr in
+    let s = c .before .before .before .before .before .before in let d = s .args .store .now in let at : ℕ = ROOM * s .args .queue .curr in
     let h = below s in
     let n : at + 30 - at ≡ 30 = omega arith in
     let l : length (part at (at + 30 - at) d) ≡ 30 = simp (length-take, length-drop) (omega (arith, s .pre .0)) in
