@@ -1,5 +1,4 @@
 pub mod Lsf
 pub mod Kinds
 pub mod Basic
-pub mod Lich
 pub mod Promises

@@ -1,13 +1,6 @@
-// The frames of M17 as m17core's protocol.rs has them: the link setup frame (LSF) and its fields, stream and packet frames, the LICH collection.
-mod lich;
+// The frames of M17 as m17core's protocol.rs has them: the link setup frame (LSF) and its fields, stream and packet frames. The LICH collection is in crate `lich`.
 mod lsf;
 
-pub use lich::Assembled;
-pub use lich::Assembly;
-pub use lich::LichCollection;
-pub use lich::SegmentAnswer;
-pub use lich::SegmentSet;
-pub use lich::ValidSegments;
 pub use lsf::DataType;
 pub use lsf::EncryptionType;
 pub use lsf::LsfFrame;

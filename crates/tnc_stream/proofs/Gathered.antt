@@ -11,17 +11,17 @@ use Rattle.choice.specs.Pick.{pick, pick-yes, and, and-both}
 use Rattle.choice.proofs.Table.{below, below-two}
 use Rattle.crc.specs.Crc.{crcOf}
 use Rattle.protocol.specs.declared.StreamFrame.{StreamFrame}
-use Rattle.protocol.specs.declared.lich.LichCollection.{LichCollection}
-use Rattle.protocol.specs.declared.lich.Assembly.the-variants.{Whole, Missing, OutOfBounds}
-use Rattle.protocol.specs.declared.lich.Assembly.{Assembly}
-use Rattle.protocol.specs.declared.lich.Assembled.{Assembled}
+use Rattle.lich.specs.declared.LichCollection.{LichCollection}
+use Rattle.lich.specs.declared.Assembly.the-variants.{Whole, Missing, OutOfBounds}
+use Rattle.lich.specs.declared.Assembly.{Assembly}
+use Rattle.lich.specs.declared.Assembled.{Assembled}
 use Rattle.protocol.specs.Lsf.{bitsAt}
-use Rattle.protocol.specs.Lich.{heard, heardCount, newCollection, withSegment, assembled}
-use Rattle.protocol.specs.Promises.{Segment, isAmong, OfLsf, none, more}
-use Rattle.protocol.specs.Promises.{afterAll as withAll}
-use Rattle.protocol.proofs.Masks.{then-heard}
-use Rattle.protocol.proofs.Collected.{Sound as Whole30}
-use Rattle.protocol.proofs.Kept.{any-order-gives-back}
+use Rattle.lich.specs.Lich.{heard, heardCount, newCollection, withSegment, assembled}
+use Rattle.lich.specs.Promises.{Segment, isAmong, OfLsf, none, more}
+use Rattle.lich.specs.Promises.{afterAll as withAll}
+use Rattle.lich.proofs.Masks.{then-heard}
+use Rattle.lich.proofs.Collected.{Sound as Whole30}
+use Rattle.lich.proofs.Kept.{any-order-gives-back}
 use Rattle.kiss_build.specs.Build.{streamSetup}
 use Rattle.state.specs.declared.State.the-variants.{RxStream}
 use Rattle.state.specs.State.{transmits}

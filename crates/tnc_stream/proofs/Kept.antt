@@ -12,8 +12,8 @@ use lib.Seq.{length-take-le, take-at}
 use Rattle.choice.specs.Pick.{pick-yes, pick-no, pick-all, and-snd, and-both}
 use Rattle.store.specs.Room.{over}
 use Rattle.protocol.specs.declared.StreamFrame.{StreamFrame}
-use Rattle.protocol.specs.declared.lich.LichCollection.{LichCollection}
-use Rattle.protocol.specs.Lich.{newCollection}
+use Rattle.lich.specs.declared.LichCollection.{LichCollection}
+use Rattle.lich.specs.Lich.{newCollection}
 use Rattle.kiss_build.specs.Build.{streamSetup, streamData}
 use Rattle.state.specs.declared.State.{State}
 use Rattle.state.specs.declared.State.the-variants.{Idle, RxStream, RxPacket}

@@ -15,13 +15,13 @@ use Rattle.store.proofs.Copies.{copied-in}
 use Rattle.store.proofs.Runs.{put-front}
 use Rattle.crc.specs.Crc.{crcOf}
 use Rattle.protocol.specs.declared.StreamFrame.{StreamFrame}
-use Rattle.protocol.specs.declared.lich.LichCollection.{LichCollection}
-use Rattle.protocol.specs.declared.lich.SegmentSet.{SegmentSet}
-use Rattle.protocol.specs.declared.lich.Assembled.{Assembled}
-use Rattle.protocol.specs.declared.lich.Assembly.{Assembly}
-use Rattle.protocol.specs.declared.lich.Assembly.the-variants.{Whole, Missing, OutOfBounds}
-use Rattle.protocol.specs.Lich.{heardCount, withSegment, segmentSet, assembled}
-use Rattle.protocol.proofs.Masks.{stays-small}
+use Rattle.lich.specs.declared.LichCollection.{LichCollection}
+use Rattle.lich.specs.declared.SegmentSet.{SegmentSet}
+use Rattle.lich.specs.declared.Assembled.{Assembled}
+use Rattle.lich.specs.declared.Assembly.{Assembly}
+use Rattle.lich.specs.declared.Assembly.the-variants.{Whole, Missing, OutOfBounds}
+use Rattle.lich.specs.Lich.{heardCount, withSegment, segmentSet, assembled}
+use Rattle.lich.proofs.Masks.{stays-small}
 use Rattle.kiss_build.specs.Build.{streamSetup}
 use Rattle.state.specs.declared.State.the-variants.{RxStream}
 use Rattle.radio.specs.declared.Radio.{Radio}

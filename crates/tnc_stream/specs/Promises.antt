@@ -9,8 +9,8 @@ use lib.ListN.{length, take}
 use Rattle.choice.specs.Pick.{pick}
 use Rattle.crc.specs.Crc.{crcOf}
 use Rattle.protocol.specs.declared.StreamFrame.{StreamFrame}
-use Rattle.protocol.specs.declared.lich.LichCollection.{LichCollection}
-use Rattle.protocol.specs.Lich.{segmentOf, newCollection}
+use Rattle.lich.specs.declared.LichCollection.{LichCollection}
+use Rattle.lich.specs.Lich.{segmentOf, newCollection}
 use Rattle.kiss_build.specs.Build.{streamSetup, streamData}
 use Rattle.outgoing.specs.Message.{left}
 use Rattle.state.specs.declared.State.{State}

@@ -8,8 +8,8 @@ use Rattle.store.specs.Room.{over}
 use Rattle.crc.specs.Crc.{crcOf}
 use Rattle.protocol.specs.Lsf.{part}
 use Rattle.protocol.specs.declared.StreamFrame.{StreamFrame}
-use Rattle.protocol.specs.declared.lich.LichCollection.{LichCollection}
-use Rattle.protocol.specs.Lich.{heardCount, newCollection, withSegment}
+use Rattle.lich.specs.declared.LichCollection.{LichCollection}
+use Rattle.lich.specs.Lich.{heardCount, newCollection, withSegment}
 use Rattle.kiss_build.specs.Build.{streamSetup, streamData}
 use Rattle.state.specs.declared.State.{State}
 use Rattle.state.specs.declared.State.the-variants.{Idle, RxAcquiringStream, RxStream}

@@ -2,8 +2,8 @@
 // the caller lends, their mask in the state; the message to the host in a store of 1,713 bytes.
 use kiss_build::new_stream_data;
 use kiss_build::new_stream_setup;
-use protocol::Assembly;
-use protocol::LichCollection;
+use lich::Assembly;
+use lich::LichCollection;
 use protocol::LsfFrame;
 use protocol::StreamFrame;
 use radio::AirAnswer;

@@ -9,8 +9,8 @@ use lib.Seq.{length-take-le}
 use Rattle.store.specs.Room.{over}
 use Rattle.store.proofs.Copies.{copied-in}
 use Rattle.store.proofs.Runs.{put-all}
-use Rattle.protocol.specs.declared.lich.LichCollection.{LichCollection}
-use Rattle.protocol.specs.Lich.{segmentSet}
+use Rattle.lich.specs.declared.LichCollection.{LichCollection}
+use Rattle.lich.specs.Lich.{segmentSet}
 use Rattle.tnc_stream.specs.Stream.{collectionAt, withFrame, acquiredWith, acquired}
 use Rattle.tnc_stream.proofs.Segments.{frame-set, frame-mask, frame-thirty, segments-in}
 use borrow.Author.Needs.{needs}

@@ -3,8 +3,8 @@ use mathlib.Core.Path.{_≡_, refl, ap, _∙_}
 use native.Mathlib.Omega.{arith}
 use lib.ListN.{length}
 use Rattle.store.specs.Room.{over}
-use Rattle.protocol.specs.declared.lich.LichCollection.{LichCollection}
-use Rattle.protocol.specs.Lich.{newCollection, segmentSet}
+use Rattle.lich.specs.declared.LichCollection.{LichCollection}
+use Rattle.lich.specs.Lich.{newCollection, segmentSet}
 use Rattle.tnc_stream.specs.Stream.{collecting, restarted}
 use Rattle.tnc_stream.proofs.Segments.{frame-set, frame-thirty, segments-in}
 use borrow.Author.Needs.{needs}

@@ -1,11 +1,11 @@
--- `protocol::lich::LichCollection::valid_segments` meets its contract. Assumes nothing.
+-- `lich::LichCollection::valid_segments` meets its contract. Assumes nothing.
 use native.Mathlib.Omega.{arith}
 use lib.Count.{ones-le}
 use Rattle.choice.specs.Pick.{tests}
-use Rattle.protocol.specs.Lich.{validSegments}
-use Rattle.protocol.proofs.Masks.{ones-is}
-use Rattle.protocol.proofs.lich.LichCollection.valid_segments.Statement.{statement}
-use Rattle.protocol.proofs.lich.LichCollection.valid_segments.Tie as tie
+use Rattle.lich.specs.Lich.{validSegments}
+use Rattle.lich.proofs.Masks.{ones-is}
+use Rattle.lich.proofs.LichCollection.valid_segments.Statement.{statement}
+use Rattle.lich.proofs.LichCollection.valid_segments.Tie as tie
 
 returns : tie.Need-returns
 unfolding validSegments

@@ -1,11 +1,11 @@
--- `protocol::lich::LichCollection::try_assemble` meets its contract. Assumes nothing.
+-- `lich::LichCollection::try_assemble` meets its contract. Assumes nothing.
 use mathlib.Core.Path.{sym, _∙_}
 use borrow.Author.Needs.{needs}
 use Rattle.choice.specs.Pick.{tests}
-use Rattle.protocol.specs.declared.lich.ValidSegments.the-variants.{OutOfBounds as NoCount}
-use Rattle.protocol.proofs.Collected.{by-count}
-use Rattle.protocol.proofs.lich.LichCollection.try_assemble.Statement.{statement}
-use Rattle.protocol.proofs.lich.LichCollection.try_assemble.Tie as tie
+use Rattle.lich.specs.declared.ValidSegments.the-variants.{OutOfBounds as NoCount}
+use Rattle.lich.proofs.Collected.{by-count}
+use Rattle.lich.proofs.LichCollection.try_assemble.Statement.{statement}
+use Rattle.lich.proofs.LichCollection.try_assemble.Tie as tie
 
 returns : tie.Need-returns
 returns c = let v = c .before .before in by-count (v .before .args .self) NoCount (sym (c .enum-told .given .1) ∙ v .valid-segments .ensures)

@@ -10,14 +10,14 @@ use lib.ListN.{length, take, drop, getD, replicate}
 use lib.Seq.{getD-take, getD-drop, ext-getD}
 use Rattle.choice.specs.Pick.{pick, pick-all}
 use Rattle.store.proofs.Places.{placed-length, placed-there, kept-before, kept-beyond}
-use Rattle.protocol.specs.declared.lich.LichCollection.{LichCollection}
-use Rattle.protocol.specs.declared.lich.ValidSegments.{ValidSegments}
-use Rattle.protocol.specs.declared.lich.ValidSegments.the-variants.{Count, OutOfBounds as NoCount}
-use Rattle.protocol.specs.declared.lich.Assembly.the-variants.{Whole, Missing, OutOfBounds as NoAssembly}
-use Rattle.protocol.specs.declared.lich.Assembled.{Assembled}
-use Rattle.protocol.specs.Lich.{segmentOf, heard, heardCount, validSegments, withSegment, assembled}
-use Rattle.protocol.specs.Promises.{Segment, afterAll, isAmong, OfLsf, none, more}
-use Rattle.protocol.proofs.Masks.{withHeard, stays-small, then-heard, order-free}
+use Rattle.lich.specs.declared.LichCollection.{LichCollection}
+use Rattle.lich.specs.declared.ValidSegments.{ValidSegments}
+use Rattle.lich.specs.declared.ValidSegments.the-variants.{Count, OutOfBounds as NoCount}
+use Rattle.lich.specs.declared.Assembly.the-variants.{Whole, Missing, OutOfBounds as NoAssembly}
+use Rattle.lich.specs.declared.Assembled.{Assembled}
+use Rattle.lich.specs.Lich.{segmentOf, heard, heardCount, validSegments, withSegment, assembled}
+use Rattle.lich.specs.Promises.{Segment, afterAll, isAmong, OfLsf, none, more}
+use Rattle.lich.proofs.Masks.{withHeard, stays-small, then-heard, order-free}
 
 -- the assembly, as the code chooses it: by what `valid_segments` answered
 abbrev pub byCount : ValidSegments → List ℕ → Assembled

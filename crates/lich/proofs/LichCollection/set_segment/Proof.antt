@@ -1,4 +1,4 @@
--- `protocol::lich::LichCollection::set_segment` meets its contract. Assumes nothing.
+-- `lich::LichCollection::set_segment` meets its contract. Assumes nothing.
 use Prim.Native.Nat.{ℕ, _+_, _*_, _≤_}
 use mathlib.Core.Path.{_≡_, _∙_}
 use mathlib.Core.List.{List}
@@ -9,10 +9,10 @@ use lib.Seq.{sets-eq}
 use Rattle.choice.specs.Pick.{tests}
 use Rattle.store.specs.Room.{placed}
 use Rattle.store.proofs.Copies.{copied-in}
-use Rattle.protocol.specs.Lich.{withSegment, segmentSet}
-use Rattle.protocol.proofs.Masks.{or-is}
-use Rattle.protocol.proofs.lich.LichCollection.set_segment.Statement.{statement}
-use Rattle.protocol.proofs.lich.LichCollection.set_segment.Tie as tie
+use Rattle.lich.specs.Lich.{withSegment, segmentSet}
+use Rattle.lich.proofs.Masks.{or-is}
+use Rattle.lich.proofs.LichCollection.set_segment.Statement.{statement}
+use Rattle.lich.proofs.LichCollection.set_segment.Tie as tie
 
 thirty : (c : tie.Start) → length (c .args .self .segments) ≡ 30
 thirty c = search needs

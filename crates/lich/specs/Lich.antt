@@ -6,16 +6,16 @@ use lib.Dec.{ltb, leb, eqb}
 use lib.ListN.{replicate}
 use Rattle.choice.specs.Pick.{pick}
 use Rattle.store.specs.Room.{placed}
-use Rattle.protocol.specs.declared.lich.LichCollection.{LichCollection}
-use Rattle.protocol.specs.declared.lich.ValidSegments.{ValidSegments}
-use Rattle.protocol.specs.declared.lich.ValidSegments.the-variants.{Count, OutOfBounds as NoCount}
-use Rattle.protocol.specs.declared.lich.SegmentAnswer.{SegmentAnswer}
-use Rattle.protocol.specs.declared.lich.SegmentAnswer.the-variants.{Done, IndexOver5, OutOfBounds as NotSet}
-use Rattle.protocol.specs.declared.lich.SegmentSet.{SegmentSet}
-use Rattle.protocol.specs.declared.lich.Assembly.{Assembly}
-use Rattle.protocol.specs.declared.lich.Assembly.the-variants.{Whole, Missing, OutOfBounds as NoAssembly}
-use Rattle.protocol.specs.declared.lich.Assembled.{Assembled}
+use Rattle.lich.specs.declared.LichCollection.{LichCollection}
+use Rattle.lich.specs.declared.ValidSegments.{ValidSegments}
+use Rattle.lich.specs.declared.ValidSegments.the-variants.{Count, OutOfBounds as NoCount}
+use Rattle.lich.specs.declared.SegmentAnswer.{SegmentAnswer}
+use Rattle.lich.specs.declared.SegmentAnswer.the-variants.{Done, IndexOver5, OutOfBounds as NotSet}
+use Rattle.lich.specs.declared.SegmentSet.{SegmentSet}
+use Rattle.lich.specs.declared.Assembly.{Assembly}
+use Rattle.lich.specs.declared.Assembly.the-variants.{Whole, Missing, OutOfBounds as NoAssembly}
+use Rattle.lich.specs.declared.Assembled.{Assembled}
 use Rattle.protocol.specs.Lsf.{Field, part, bitsAt, withBitsAt}
 
 -- segment i of an LSF
 abbrev pub segmentOf : ℕ → List ℕ → List ℕ

@@ -1,6 +1,6 @@
-// What has been heard of an LSF that comes in six segments of five bytes, one with each stream frame (LICH).
+// The LICH collection as m17core's protocol.rs has it: what has been heard of an LSF that comes in six segments of five bytes, one with each stream frame.
 ghost use mathlib.Core.Path.{_≡_};
-ghost use Rattle.protocol.specs.Lich.{newCollection, validSegments, segmentSet, assembled};
+ghost use Rattle.lich.specs.Lich.{newCollection, validSegments, segmentSet, assembled};
 
 // Six segments of five bytes, and a mask whose bit i is set once segment i has been heard. A mask of 64 or more is no state of a collection.
 pub struct LichCollection {

@@ -1,0 +1,2 @@
+pub mod Lich
+pub mod Promises
