@@ -40,7 +40,7 @@ use denote.Triple.Call.{calls-at}
 use denote.Triple.Entry.{Args, onEntry}
 use denote.Triple.Spec.{Meets, tripleOf}
 use denote.Triple.Table.{entered, cited}
-use denote.Triple.Walked.{Stays, stay-ref, stay-none, walkOf, AllGo, goes-none, goes-ref, Walks, ends-at, walked, walk-meets}
+use denote.Triple.Walked.{Stays, stay-ref, stay-none, walkOf, AllGo, goes-none, goes-ref, ends-at, walked, walk-meets}
 use denote.Triple.Clauses.{Ended, Clauses, closing, ensured, lasts, atExit}
 use denote.Exit.{yes}
 use Rattle.channel.specs.declared.Channel.{Channel}
