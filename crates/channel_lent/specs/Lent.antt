@@ -1,4 +1,4 @@
--- A setter on a lent channel record: the answer, and the record as it is left, from document 01 under "Bounds for 8" and its last form. Assumes nothing.
+-- A setter on a lent channel record, as its answer and the record that it leaves, from document 01 under "Channel access": "one small record lent by the caller and updated there". Assumes nothing.
 use Rattle.channel.specs.declared.Channel.{Channel}
 use Rattle.channel.specs.declared.ChannelAnswer.{ChannelAnswer}
 use Rattle.channel.specs.declared.ChannelSet.{ChannelSet}
