@@ -1,5 +1,4 @@
 pub mod Frames
 pub mod Queue
-pub mod Inside
 pub mod Examples
 pub mod Promises
