@@ -28,7 +28,7 @@ use Rattle.kiss_escape.proofs.Escapes.{esc-length}
 use Rattle.kiss_build.proofs.Frames.{frame-length, put-yes}
 use Rattle.kiss_read.proofs.Commands.{command-small, command-read}
 use Rattle.kiss_build.proofs.Builds.{built-accepted}
-use Rattle.kiss_build.proofs.Streams.{stream-length, stream-of, stream-crc}
+use Rattle.kiss_stream.proofs.Streams.{stream-length, stream-of, stream-crc}
 use Rattle.kiss_build.proofs.ReadBack.{frame-header, frame-payload}
 
 -- ---- what acceptance says of the arguments

@@ -2,4 +2,3 @@ pub mod Frames
 pub mod Builds
 pub mod ReadBack
 pub mod Kept
-pub mod Streams

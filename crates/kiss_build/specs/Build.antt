@@ -11,7 +11,7 @@ use Rattle.kiss_read.specs.declared.KissCommand.the-variants.{DataFrame, TxDela
 use Rattle.kiss_build.specs.declared.Built.{Built}
 use Rattle.kiss_build.specs.declared.Built.the-variants.{PayloadTooBig, LsfWrongSize, OutOfRange}
 use Rattle.protocol.specs.declared.StreamFrame.{StreamFrame}
-use Rattle.kiss_build.specs.Stream.{streamContent}
+use Rattle.kiss_stream.specs.Stream.{streamContent}
 use Rattle.kiss_build.specs.Frame.{headerOf, frame, putFrame}
 
 -- a builder with its arguments

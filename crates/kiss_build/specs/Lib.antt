@@ -1,5 +1,4 @@
 pub mod Frame
-pub mod Stream
 pub mod Build
 pub mod Examples
 pub mod Promises

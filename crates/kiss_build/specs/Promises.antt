@@ -16,7 +16,7 @@ use Rattle.kiss_read.specs.declared.PortRead.the-variants.{Port}
 use Rattle.kiss_read.specs.declared.CommandRead.the-variants.{Command}
 use Rattle.kiss_read.specs.declared.Decoded.the-variants.{Payload}
 use Rattle.kiss_build.specs.Frame.{builtNumber}
-use Rattle.kiss_build.specs.Stream.{streamContent, streamOf}
+use Rattle.kiss_stream.specs.Stream.{streamContent, streamOf}
 use Rattle.kiss_build.specs.Build.{Building, basicPacket, fullPacket, streamSetup, streamData, txDelay, persistence, fullDuplex, portOf, commandOf, contentOf, refusal, frameOf, built}
 use Rattle.kiss_build.specs.Examples.{starred, holds}
 use Rattle.kiss_read.specs.Read.{portRead, commandRead, decoded}

@@ -3,13 +3,13 @@ use kiss_escape::FEND;
 use kiss_escape::escape;
 use kiss_escape::escaped_len;
 use kiss_read::KissCommand;
+use kiss_stream::checked_content;
 use protocol::StreamFrame;
 ghost use mathlib.Core.Path.{_≡_};
 ghost use mathlib.Core.List.{_++_};
 ghost use Prim.Native.Nat.{_+_, _≤_, _<_};
 ghost use lib.ListN.{length};
 ghost use Rattle.kiss_build.specs.Frame.{headerOf, frame, putFrame};
-ghost use Rattle.kiss_build.specs.Stream.{endMark, numberedData, streamContent};
 ghost use Rattle.kiss_build.specs.Build.{built, basicPacket, fullPacket, streamSetup, streamData, txDelay, persistence, fullDuplex, setting};
 
 pub const PORT_PACKET_BASIC: u8 = 0;
@@ -79,19 +79,17 @@ pub fn new_stream_setup(lsf: &[u8], room: &mut [u8]) -> Built
 pub fn new_stream_data(frame: StreamFrame, room: &mut [u8]) -> Built
     ensures { λ r. ⌜ (r, now (room .exit)) ≡ built (streamData frame) (now (room .entry)) ⌝ }
 {
-    if 5 < frame.lich_idx {
-        return Built::OutOfRange;
+    let content = checked_content(frame);
+    if content.valid {
+        let bytes = content.bytes;
+        return put_frame(
+            kiss_header(PORT_STREAM, KissCommand::DataFrame),
+            b"",
+            &bytes,
+            room,
+        );
     }
-    if 32767 < frame.frame_number {
-        return Built::OutOfRange;
-    }
-    let content = stream_content(frame);
-    put_frame(
-        kiss_header(PORT_STREAM, KissCommand::DataFrame),
-        b"",
-        &content,
-        room,
-    )
+    Built::OutOfRange
 }
 
 pub fn new_set_tx_delay(port: u8, units: u8, room: &mut [u8]) -> Built
@@ -130,43 +128,6 @@ fn put_setting(port: u8, command: KissCommand, value: u8, room: &mut [u8]) -> Bu
         return Built::OutOfRange;
     }
     put_frame(kiss_header(port, command), b"", &[value], room)
-}
-
-// The LICH part, its index in the top three bits of a byte, and the numbered data with its CRC.
-fn stream_content(frame: StreamFrame) -> [u8; 26]
-    requires { ⌜ (frame .«lich_idx» ≤ 5) × (frame .«frame_number» ≤ 32767) ⌝ }
-    ensures { λ r. ⌜ r ≡ streamContent frame ⌝ }
-{
-    let part = frame.lich_part;
-    let inner = numbered_data(frame);
-    let crc = crc::m17_crc(&inner);
-    let mut content = [0u8; 26];
-    store::copy_in(&part, &mut content, 0);
-    content[5] = frame.lich_idx * 32;
-    store::copy_in(&inner, &mut content, 6);
-    content[24] = (crc / 256) as u8;
-    content[25] = (crc % 256) as u8;
-    content
-}
-
-// The frame's number, its top bit marking the end, and its data.
-fn numbered_data(frame: StreamFrame) -> [u8; 18]
-    requires { ⌜ frame .«frame_number» ≤ 32767 ⌝ }
-    ensures { λ r. ⌜ r ≡ numberedData frame ⌝ }
-{
-    let number = frame.frame_number;
-    let bytes = frame.stream_data;
-    let mut inner = [0u8; 18];
-    inner[0] = (number / 256) as u8 + end_mark(frame.end_of_stream);
-    inner[1] = (number % 256) as u8;
-    store::copy_in(&bytes, &mut inner, 2);
-    inner
-}
-
-fn end_mark(end: bool) -> u8
-    ensures { λ r. ⌜ r ≡ endMark end ⌝ }
-{
-    if end { 0x80 } else { 0 }
 }
 
 // Writes FEND, the header, first and second escaped, FEND at the start of room. Where they do not fit, room is left as it is.

@@ -10,7 +10,7 @@ use Rattle.choice.specs.Pick.{pick, and-fst, and-snd}
 use Rattle.store.specs.Room.{placed}
 use Rattle.crc.specs.Crc.{crcOf}
 use Rattle.kiss_read.specs.declared.Decoded.{Decoded}
-use Rattle.kiss_build.specs.Stream.{streamOf}
+use Rattle.kiss_stream.specs.Stream.{streamOf}
 use Rattle.streams.specs.declared.StreamQueue.{StreamQueue}
 use Rattle.streams.specs.declared.StreamAnswer.the-variants.{Queued, LsfPending, Ignored, WrongStore, OutOfBounds}
 use Rattle.streams.specs.declared.StreamReadAnswer.the-variants.{Nothing, WrongStore as NoStore, OutOfBounds as NoState}

@@ -13,7 +13,7 @@ use Rattle.crc.specs.Crc.{twoBytes}
 use Rattle.store.proofs.Runs.{put-all, sets-append}
 use Rattle.protocol.specs.declared.StreamFrame.{StreamFrame}
 use Rattle.protocol.specs.Lsf.{part}
-use Rattle.kiss_build.specs.Stream.{streamOf}
+use Rattle.kiss_stream.specs.Stream.{streamOf}
 use Rattle.streams.specs.Layout.{FRAME, endByte, bytesOf, frameOf}
 
 -- ---- the stores that make them

@@ -1,5 +1,5 @@
 -- How a stream frame is stored: 25 bytes, from document 01's body of the event 07 (LICH index 1, part 5, number 2, end 1 (0 is not the end), data 16; numbers high
--- byte first). What the payload of a port 2 data frame stands for is `streamOf` of crate kiss_build. Assumes nothing.
+-- byte first). What the payload of a port 2 data frame stands for is `streamOf` of crate kiss_stream. Assumes nothing.
 use Prim.Native.Nat.{ℕ, _+_, _*_}
 use mathlib.Core.Bool.{Bool, true, false, not}
 use mathlib.Core.List.{List, _∷_, _++_}

@@ -11,7 +11,7 @@ use Rattle.crc.specs.Crc.{crcOf}
 use Rattle.protocol.specs.declared.StreamFrame.{StreamFrame}
 use Rattle.protocol.specs.Lsf.{part}
 use Rattle.kiss_read.specs.declared.Decoded.the-variants.{Payload}
-use Rattle.kiss_build.specs.Stream.{streamOf}
+use Rattle.kiss_stream.specs.Stream.{streamOf}
 use Rattle.kiss_build.specs.Build.{streamSetup, streamData, frameOf as builtFrame}
 use Rattle.kiss_build.specs.Promises.{Accepted}
 use Rattle.streams.specs.declared.StreamQueue.{StreamQueue}

@@ -8,7 +8,7 @@ use protocol::StreamFrame;
 ghost use mathlib.Core.Bool.{true};
 ghost use mathlib.Core.Path.{_≡_};
 ghost use lib.ListN.{length};
-ghost use Rattle.kiss_build.specs.Stream.{streamOf};
+ghost use Rattle.kiss_stream.specs.Stream.{streamOf};
 ghost use Rattle.streams.specs.Layout.{bytesOf};
 ghost use Rattle.streams.specs.Queue.{STORE, newQueue, soundQueue, emptyQueue, dataPushed, lsfPushed, pushed};
 

@@ -3,10 +3,12 @@
 use Prim.Native.Nat.{ℕ, _+_, _*_, _/_, _%_}
 use mathlib.Core.Bool.{Bool, true, false}
 use mathlib.Core.List.{List, [], _∷_, _++_}
-use lib.Dec.{leb}
-use lib.ListN.{take, drop, getD}
+use lib.Dec.{leb, ltb}
+use lib.ListN.{take, drop, getD, replicate}
+use Rattle.choice.specs.Pick.{pick}
 use Rattle.crc.specs.Crc.{sealed}
 use Rattle.protocol.specs.declared.StreamFrame.{StreamFrame}
+use Rattle.kiss_stream.specs.declared.StreamContent.{StreamContent}
 
 abbrev pub endMark : Bool → ℕ
 endMark true = 0x80
@@ -17,6 +19,13 @@ numberedData f = (f .«frame_number» / 256 + endMark (f .«end_of_stream»)) �
 
 unfoldable pub streamContent : StreamFrame → List ℕ
 streamContent f = f .«lich_part» ++ f .«lich_idx» * 32 ∷ sealed (numberedData f)
+
+abbrev pub outside : StreamContent
+outside = record { valid = false; bytes = replicate 26 0 }
+
+-- a frame's content, where its LICH index is at most 5 and its number at most 32,767
+unfoldable pub checkedContent : StreamFrame → StreamContent
+checkedContent f = pick (ltb 5 (f .«lich_idx»)) outside (pick (ltb 32767 (f .«frame_number»)) outside (record { valid = true; bytes = streamContent f }))
 
 -- what such a content stands for
 unfoldable pub streamOf : List ℕ → StreamFrame

@@ -12,7 +12,7 @@ use Rattle.store.proofs.Runs.{put-all, sets-append}
 use Rattle.crc.specs.Crc.{crcOf, twoBytes, sealed}
 use Rattle.crc.proofs.Kept.{sealed-gives-zero, sealed-length}
 use Rattle.protocol.specs.declared.StreamFrame.{StreamFrame}
-use Rattle.kiss_build.specs.Stream.{endMark, numberedData, streamContent, streamOf}
+use Rattle.kiss_stream.specs.Stream.{endMark, numberedData, streamContent, streamOf}
 
 pub endMark-small : (e : Bool) → endMark e ≤ 128
 endMark-small true = omega arith
