@@ -8,8 +8,6 @@ use mathlib.Core.List.{List}
 use lib.Dec.{eqb}
 use lib.ListN.{length}
 use Rattle.choice.specs.Pick.{pick, and}
-use Rattle.choice.specs.Cases.{allPass, same}
-use Rattle.kiss_read.specs.Scan.{stretch}
 use Rattle.kiss_build.specs.Build.{Building}
 use Rattle.kiss_build.proofs.Kept.{built-reads-back}
 use Rattle.kiss_buffer.specs.declared.WriteAnswer.the-variants.{Done, Full, WrongStore, OutOfBounds}
@@ -19,8 +17,7 @@ use Rattle.kiss_buffer.specs.declared.NextFrame.{NextFrame}
 use Rattle.kiss_buffer.specs.Meaning.{kept, framesOf}
 use Rattle.kiss_buffer.specs.Reader.{STORE, next, refused}
 use Rattle.kiss_buffer.specs.Calls.{soundBuffer, notWritten, writes, written, nextAnswer, notSought, found, nextFrame, writeNumber, nextNumber}
-use Rattle.kiss_buffer.specs.Examples.{starred, sameFrames, holds}
-use Rattle.kiss_buffer.specs.Promises.{Box, afterWritten, afterNextFrame, FramesAreTheSplit, RunGivesItsFrames, RefusedKeepsAll, StarredHold, WriteTakesSome, DrainedIsNotRefused, TakingEnds, SoundStaysSound, EveryInputHasItsRun, AllAccepted, none-accepted, one-accepted, AllReadBack, none-read, one-read, Demand3}
+use Rattle.kiss_buffer.specs.Promises.{Box, afterWritten, afterNextFrame, FramesAreTheSplit, RunGivesItsFrames, RefusedKeepsAll, WriteTakesSome, DrainedIsNotRefused, TakingEnds, SoundStaysSound, EveryInputHasItsRun, AllAccepted, none-accepted, one-accepted, AllReadBack, none-read, one-read, Demand3}
 use Rattle.kiss_buffer.proofs.Frames.{built-frames}
 use Rattle.kiss_buffer.proofs.Split.{frames-split}
 use Rattle.kiss_buffer.proofs.Steps.{still-not-refused, takes-some}
@@ -99,9 +96,3 @@ all-read-back (one-accepted {b} ok oks) = one-read (built-reads-back b ok) (all-
 
 pub demand-3 : Demand3
 demand-3 earlier b bs oks w f store l out r = (run-frames store l w out r ∙ built-frames earlier oks f, all-read-back oks)
-
--- ---- document 01's examples
-
-pub starred-hold : StarredHold
-unfolding starred allPass holds sameFrames same and pick framesOf stretch kept
-starred-hold = refl

@@ -2,5 +2,4 @@ pub mod Meaning
 pub mod Reader
 pub mod Calls
 pub mod Inside
-pub mod Examples
 pub mod Promises

@@ -5,7 +5,6 @@ use mathlib.Core.Logic.{_≢_}
 use mathlib.Core.Path.{_≡_}
 use mathlib.Core.List.{List, [], _∷_, _++_, map}
 use lib.ListN.{length, take, drop}
-use Rattle.choice.specs.Cases.{allPass}
 use Rattle.kiss_escape.specs.Escape.{FEND}
 use Rattle.kiss_build.specs.Build.{Building, portOf, commandOf, contentOf, frameOf}
 use Rattle.kiss_build.specs.Promises.{Accepted, ReadsAs}
@@ -15,7 +14,6 @@ use Rattle.kiss_buffer.specs.declared.NextAnswer.the-variants.{Frame, No
 use Rattle.kiss_buffer.specs.Meaning.{framesOf, split, splitFrames}
 use Rattle.kiss_buffer.specs.Reader.{newReader, STORE}
 use Rattle.kiss_buffer.specs.Calls.{bufferOf, soundBuffer, written, nextFrame, frameIn, writeNumber, nextNumber}
-use Rattle.kiss_buffer.specs.Examples.{starred, holds}
 
 -- the reader's meaning is document 01's: split at each FEND, drop what precedes the first, keep the stretches of 1 to 1,711 bytes
 abbrev pub FramesAreTheSplit : Type 0
@@ -120,8 +118,3 @@ Demand3 =
     → (w : List ℕ) → Folds (earlier ++ joined (map frameOf (b ∷ bs))) w
     → (store : List ℕ) → length store ≡ STORE → (out : List (List ℕ)) → Run (newBox store) w out
     → (out ≡ framesOf (earlier ++ FEND ∷ []) ++ map frameOf (b ∷ bs)) × AllReadBack (b ∷ bs)
-
--- ---- document 01's starred examples of the reader hold
-
-abbrev pub StarredHold : Type 0
-StarredHold = allPass holds starred ≡ true

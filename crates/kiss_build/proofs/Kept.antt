@@ -10,7 +10,6 @@ use lib.Dec.{ltb, eqb}
 use lib.ListN.{length, length-append}
 use borrow.Author.Tests.{ltb-false, eqb-true}
 use Rattle.choice.specs.Pick.{pick, and}
-use Rattle.choice.specs.Cases.{allPass, same}
 use Rattle.store.specs.Room.{fits, over}
 use Rattle.kiss_read.specs.declared.KissCommand.{KissCommand}
 use Rattle.kiss_read.specs.declared.KissCommand.the-variants.{DataFrame, TxDelay, P, FullDuplex}
@@ -18,12 +17,11 @@ use Rattle.kiss_build.specs.declared.Built.{Built}
 use Rattle.kiss_build.specs.declared.Built.the-variants.{Frame, PayloadTooBig, LsfWrongSize, OutOfRange, NoRoom}
 use Rattle.kiss_read.specs.declared.PortRead.the-variants.{Port}
 use Rattle.kiss_read.specs.declared.CommandRead.the-variants.{Command}
-use Rattle.kiss_escape.specs.Escape.{FEND, escByte, esc}
+use Rattle.kiss_escape.specs.Escape.{FEND, esc}
 use Rattle.kiss_build.specs.Frame.{headerOf, frame, putFrame, builtNumber}
 use Rattle.kiss_build.specs.Build.{Building, basicPacket, fullPacket, streamSetup, streamData, txDelay, persistence, fullDuplex, portOf, commandOf, contentOf, refusal, frameOf, unless, built}
 use Rattle.kiss_read.specs.Read.{commandNumber, portAt, portRead, commandFor, commandAt, commandRead}
-use Rattle.kiss_build.specs.Promises.{Accepted, AcceptedIsBuilt, BuiltAtMost1713, RefusedKeepsRoom, ReadsAs, BuiltReadsBack, StreamContentReadsBack, StarredHold}
-use Rattle.kiss_build.specs.Examples.{starred, holds}
+use Rattle.kiss_build.specs.Promises.{Accepted, AcceptedIsBuilt, BuiltAtMost1713, RefusedKeepsRoom, ReadsAs, BuiltReadsBack, StreamContentReadsBack}
 use Rattle.kiss_escape.proofs.Escapes.{esc-length}
 use Rattle.kiss_build.proofs.Frames.{frame-length, put-yes}
 use Rattle.kiss_read.proofs.Commands.{command-small, command-read}
@@ -128,9 +126,3 @@ unfolding refusal
 stream-content-reads-back f ok =
     let r = within-two (f .«lich_idx») (f .«frame_number») (ok .not-refused) in
     (stream-of f (ok .typed .0) (ok .typed .1) (r .1), stream-crc f (ok .typed .0))
-
--- ---- document 01's example
-
-pub starred-hold : StarredHold
-unfolding starred allPass holds same and pick esc escByte built refusal putFrame frame
-starred-hold = refl

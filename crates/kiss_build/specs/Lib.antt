@@ -1,4 +1,3 @@
 pub mod Frame
 pub mod Build
-pub mod Examples
 pub mod Promises

@@ -6,7 +6,6 @@ use mathlib.Core.Path.{_≡_}
 use mathlib.Core.Option.{none}
 use mathlib.Core.List.{List}
 use lib.ListN.{length, drop}
-use Rattle.choice.specs.Cases.{allPass}
 use Rattle.store.specs.Room.{over}
 use Rattle.crc.specs.Crc.{crcOf}
 use Rattle.protocol.specs.declared.StreamFrame.{StreamFrame}
@@ -18,7 +17,6 @@ use Rattle.kiss_read.specs.declared.Decoded.the-variants.{Payload}
 use Rattle.kiss_build.specs.Frame.{builtNumber}
 use Rattle.kiss_stream.specs.Stream.{streamContent, streamOf}
 use Rattle.kiss_build.specs.Build.{Building, basicPacket, fullPacket, streamSetup, streamData, txDelay, persistence, fullDuplex, portOf, commandOf, contentOf, refusal, frameOf, built}
-use Rattle.kiss_build.specs.Examples.{starred, holds}
 use Rattle.kiss_read.specs.Read.{portRead, commandRead, decoded}
 
 -- ---- builders
@@ -63,7 +61,3 @@ BuiltReadsBack = (b : Building) → Accepted b → ReadsAs (frameOf b) (portOf b
 -- and the content of a stream data frame stands for the very frame that the builder was given, its CRC being that of its number and data
 abbrev pub StreamContentReadsBack : Type 0
 StreamContentReadsBack = (f : StreamFrame) → Accepted (streamData f) → (streamOf (streamContent f) ≡ f) × (crcOf (drop 6 (streamContent f)) ≡ 0)
-
--- document 01's starred example holds
-abbrev pub StarredHold : Type 0
-StarredHold = allPass holds starred ≡ true

@@ -3,15 +3,11 @@ use Prim.Native.Nat.{ℕ, zero, suc, _<_, suc-le-suc}
 use native.Mathlib.Nat.{le-of-suc-le-suc, not-suc-le-zero}
 use native.Mathlib.Omega.{arith}
 use mathlib.Core.Logic.{_≢_}
-use mathlib.Core.Path.{_≡_, refl}
+use mathlib.Core.Path.{_≡_}
 use mathlib.Core.List.{List, [], _∷_, _++_}
 use lib.ListN.{length, getD}
-use Rattle.choice.specs.Pick.{pick, and}
-use Rattle.choice.specs.Cases.{allPass, same}
 use Rattle.kiss_escape.specs.Escape.{FEND, FESC, TFEND, TFESC, escByte, esc, escaped}
-use Rattle.kiss_escape.specs.Unescape.{afterFesc, codes, lay, unescaped}
-use Rattle.kiss_escape.specs.Examples.{starred, holds}
-use Rattle.kiss_escape.specs.Promises.{EscapeRoundTrip, EscapedHasNoFend, EscapedAtMostTwice, UnescapeStaysInRoom, StarredHold}
+use Rattle.kiss_escape.specs.Promises.{EscapeRoundTrip, EscapedHasNoFend, EscapedAtMostTwice, UnescapeStaysInRoom}
 use Rattle.kiss_escape.proofs.Bytes.{Kind, fend, fesc, other, kind}
 use Rattle.kiss_escape.proofs.Escapes.{escByte-fend, escByte-fesc, escByte-other, esc-length}
 use Rattle.kiss_escape.proofs.Unescaped.{round-trip, room-length, count-in-room}
@@ -46,9 +42,3 @@ pub escaped-has-no-fend : EscapedHasNoFend
 unfolding esc
 escaped-has-no-fend [] = none
 escaped-has-no-fend (b ∷ s) = escByte-clear b (esc s) (kind b) (escaped-has-no-fend s)
-
--- ---- document 01's examples
-
-pub starred-hold : StarredHold
-unfolding starred allPass holds same and pick esc escByte escaped codes afterFesc lay unescaped
-starred-hold = refl

@@ -1,4 +1,3 @@
 pub mod Escape
 pub mod Unescape
-pub mod Examples
 pub mod Promises

@@ -5,11 +5,9 @@ use mathlib.Core.Logic.{_≢_}
 use mathlib.Core.Path.{_≡_}
 use mathlib.Core.List.{List}
 use lib.ListN.{length, getD}
-use Rattle.choice.specs.Cases.{allPass}
 use Rattle.store.specs.Room.{over}
 use Rattle.kiss_escape.specs.Escape.{FEND, esc}
 use Rattle.kiss_escape.specs.Unescape.{unescaped}
-use Rattle.kiss_escape.specs.Examples.{starred, holds}
 
 -- unescaping what was escaped, given room, gives it back, and what lies beyond in the room stays
 abbrev pub EscapeRoundTrip : Type 0
@@ -26,7 +24,3 @@ EscapedAtMostTwice = (s : List ℕ) → (length s ≤ length (esc s)) × (length
 -- whatever the content, the room keeps its length and the count stays within it
 abbrev pub UnescapeStaysInRoom : Type 0
 UnescapeStaysInRoom = (content room : List ℕ) → (length (unescaped content room .1) ≡ length room) × (unescaped content room .0 ≤ length room)
-
--- document 01's starred examples hold
-abbrev pub StarredHold : Type 0
-StarredHold = allPass holds starred ≡ true

@@ -24,11 +24,10 @@ use Rattle.packets.specs.declared.PushAnswer.the-variants.{Ignored, Wron
 use Rattle.packets.specs.declared.Pushed.{Pushed}
 use Rattle.packets.specs.declared.PacketRead.{PacketRead}
 use Rattle.packets.specs.declared.ReadAnswer.the-variants.{Nothing, WrongStore as NoStore, OutOfBounds as NoState}
-use Rattle.packets.specs.Frames.{framesOf, zeros, dataFrames, chunks, chunk, carriedLsf, carriedBody}
+use Rattle.packets.specs.Frames.{framesOf, zeros, dataFrames, carriedLsf, carriedBody}
 use Rattle.packets.specs.Queue.{ROOM, DATA, STORE, RAW, soundPlace, soundQueue, isEmpty, Made, malformed, unfit, overlong, fills, basicRoom, basic, full, madeBasic, madeFull, stored, notPushed, obeyed, pushing, pushedBasic, pushedFull, advanced, lsfRead, dataRead, turn, walk, notRead, readNext, readNumber}
 use Rattle.packet_room.specs.Inside.{countOf}
-use Rattle.packets.specs.Examples.{starred, counterTest, holds}
-use Rattle.packets.specs.Promises.{KeptBy, RefusedKeepsAll, NewIsSound, Sound, SoundStaysSound, BasicIsSealed, Rejoined, StarredHold}
+use Rattle.packets.specs.Promises.{KeptBy, RefusedKeepsAll, NewIsSound, Sound, SoundStaysSound, BasicIsSealed, Rejoined}
 use Rattle.packets.proofs.Bounds.{at-here, sound-advanced, sound-with, sound-packet}
 use Rattle.packet_room.proofs.Decoding.{in-room}
 use Rattle.packet_room.proofs.Rooms.{basic-lsf-length}
@@ -185,7 +184,3 @@ unfolding framesOf carriedLsf carriedBody
 rejoined p =
     let l : p .lsf ++ carriedLsf (dataFrames 0 (p .body)) ≡ p .lsf = ap (λ (x : List ℕ). p .lsf ++ x) (data-no-lsf 0 (p .body)) ∙ append-nil (p .lsf) in
     λ t. record { lsf = l t; body = data-carried 0 (p .body) t }
-
-pub starred-hold : StarredHold
-unfolding starred allPass holds counterTest dataFrames chunks chunk pick and
-starred-hold = refl

@@ -1,4 +1,3 @@
 pub mod Frames
 pub mod Queue
-pub mod Examples
 pub mod Promises

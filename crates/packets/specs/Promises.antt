@@ -5,14 +5,12 @@ use mathlib.Core.Logic.{_≢_}
 use mathlib.Core.Path.{_≡_}
 use mathlib.Core.List.{List, _∷_}
 use lib.ListN.{length, take}
-use Rattle.choice.specs.Cases.{allPass}
 use Rattle.crc.specs.Crc.{sealed}
 use Rattle.protocol.specs.Basic.{basicLsf}
 use Rattle.packets.specs.declared.PacketQueue.{PacketQueue}
 use Rattle.packets.specs.declared.Pushed.{Pushed}
 use Rattle.packets.specs.Frames.{Packet, framesOf, rejoin}
 use Rattle.packets.specs.Queue.{STORE, RAW, newQueue, soundQueue, basicRoom, packetIn, pushedBasic, pushedFull, readNext, pushNumber, readNumber}
-use Rattle.packets.specs.Examples.{starred, holds}
 
 -- a push that was refused left the record and all bytes of the store as they were
 abbrev pub KeptBy : PacketQueue → List ℕ → Pushed × List ℕ → Type 0
@@ -49,7 +47,3 @@ BasicIsSealed =
 -- the frames of a packet, joined again, are the packet
 abbrev pub Rejoined : Type 0
 Rejoined = (p : Packet) → rejoin (framesOf p) ≡ p
-
--- document 01's starred examples hold
-abbrev pub StarredHold : Type 0
-StarredHold = allPass holds starred ≡ true
