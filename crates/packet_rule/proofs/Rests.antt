@@ -17,7 +17,7 @@ use Rattle.packets.specs.declared.Place.{Place}
 use Rattle.packets.specs.Frames.{AirFrame, setup, piece, chunk, dataFrames, framesOf}
 use Rattle.packets.specs.Queue.{ROOM, DATA, STORE, soundPlace, packetIn, stored}
 use Rattle.packets.proofs.Chunks.{data-none, data-next}
-use Rattle.packet_room.proofs.Rooms.{part-placed}
+use Rattle.packets.proofs.Rooms.{part-placed}
 use Rattle.packet_rule.specs.Left.{lsfLeft, dataLeft, restAt}
 
 -- ---- parts of a list

@@ -15,8 +15,8 @@ use Rattle.packets.specs.declared.PushAnswer.the-variants.{Ignored, Wron
 use Rattle.packets.specs.declared.ReadAnswer.the-variants.{Nothing, WrongStore as NoStore, OutOfBounds as NoState}
 use Rattle.packets.specs.Frames.{zeros}
 use Rattle.packets.specs.Queue.{ROOM, STORE, soundQueue, isEmpty, Made, malformed, unfit, overlong, fills, basicRoom, basic, full, madeBasic, madeFull, notPushed, obeyed, pushing, notRead, walk, readNext}
-use Rattle.packet_room.specs.Inside.{isPayload, countOf}
-use Rattle.packet_room.proofs.Decoding.{no-payload, some-payload, any-room}
+use Rattle.packets.specs.Inside.{isPayload, countOf}
+use Rattle.packets.proofs.Decoding.{no-payload, some-payload, any-room}
 
 -- ---- the tests that every push makes first
 

@@ -26,12 +26,11 @@ use Rattle.packets.specs.declared.PacketRead.{PacketRead}
 use Rattle.packets.specs.declared.ReadAnswer.the-variants.{Nothing, WrongStore as NoStore, OutOfBounds as NoState}
 use Rattle.packets.specs.Frames.{framesOf, zeros, dataFrames, carriedLsf, carriedBody}
 use Rattle.packets.specs.Queue.{ROOM, DATA, STORE, RAW, soundPlace, soundQueue, isEmpty, Made, malformed, unfit, overlong, fills, basicRoom, basic, full, madeBasic, madeFull, stored, notPushed, obeyed, pushing, pushedBasic, pushedFull, advanced, lsfRead, dataRead, turn, walk, notRead, readNext, readNumber}
-use Rattle.packet_room.specs.Inside.{countOf}
+use Rattle.packets.specs.Inside.{countOf}
 use Rattle.packets.specs.Promises.{KeptBy, RefusedKeepsAll, NewIsSound, Sound, SoundStaysSound, BasicIsSealed, Rejoined}
 use Rattle.packets.proofs.Bounds.{at-here, sound-advanced, sound-with, sound-packet}
-use Rattle.packet_room.proofs.Decoding.{in-room}
-use Rattle.packet_room.proofs.Rooms.{basic-lsf-length}
-use Rattle.packets.proofs.Rooms.{length-zeros}
+use Rattle.packets.proofs.Decoding.{in-room}
+use Rattle.packets.proofs.Rooms.{length-zeros, basic-lsf-length}
 use Rattle.packets.proofs.Chunks.{data-carried, data-no-lsf}
 
 -- ---- refusals

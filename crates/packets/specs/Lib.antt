@@ -1,3 +1,4 @@
 pub mod Frames
 pub mod Queue
+pub mod Inside
 pub mod Promises

@@ -5,9 +5,13 @@ use kiss_read::decode_payload;
 use protocol::LsfFrame;
 use protocol::PacketFrame;
 ghost use mathlib.Core.Path.{_≡_};
-ghost use Prim.Native.Nat.{_<_};
+ghost use Prim.Native.Nat.{_+_, _*_, _≤_, _<_};
+ghost use lib.ListN.{length};
+ghost use Rattle.kiss_read.specs.Read.{decoded};
 ghost use Rattle.packets.specs.declared.PushAnswer.the-variants.{Queued};
-ghost use Rattle.packets.specs.Queue.{newQueue, soundQueue, isEmpty, withPacket, pushedBasic, pushedFull};
+ghost use Rattle.packets.specs.Frames.{zeros};
+ghost use Rattle.packets.specs.Queue.{ROOM, STORE, newQueue, soundQueue, isEmpty, withPacket, pushedBasic, pushedFull};
+ghost use Rattle.packets.specs.Inside.{isPayload, decodedAt, sealedAt};
 
 // The bytes of a packet's data, type and CRC among them.
 pub const MAX_DATA_LEN: usize = 825;
@@ -19,6 +23,9 @@ pub const STORE_LEN: usize = 3420;
 
 // What a packet of port 0 leaves of its data for the payload: without the type byte and the CRC.
 const MAX_BASIC_LEN: usize = 822;
+
+// The type of a packet of port 0: raw data.
+const RAW: u8 = 0x00;
 
 pub struct Place {
     // Its LSF is still to be sent.
@@ -133,16 +140,16 @@ impl PacketQueue {
         if self.full {
             return self.answered(PushAnswer::Ignored);
         }
-        if !packet_room::has_payload(frame) {
+        if !has_payload(frame) {
             return self.answered(PushAnswer::MalformedKissFrame);
         }
         let room = ROOM_LEN * self.next;
-        let n = packet_room::decode_into(frame, store, room);
+        let n = decode_into(frame, store, room);
         if MAX_BASIC_LEN < n {
             store::copy_in(&[0u8; 855], store, room);
             return self.answered(PushAnswer::Ignored);
         }
-        packet_room::seal(store, room, n);
+        seal(store, room, n);
         self.accepted(n + 3)
     }
 
@@ -201,4 +208,44 @@ impl PacketQueue {
             queue: self,
         }
     }
+}
+
+// The frame holds a header and a FEND behind it. This is asked before anything of the store is touched.
+fn has_payload(frame: &[u8]) -> bool
+    ensures { λ r. ⌜ r ≡ isPayload (decoded (now (frame .entry)) (zeros 1) .0) ⌝ }
+{
+    let mut room = [0u8; 1];
+    match decode_payload(frame, &mut room) {
+        Decoded::Payload(_) => true,
+        Decoded::MalformedKissFrame => false,
+    }
+}
+
+// The room at `at` is cleared and the content decoded straight into it, behind the type byte. Returns how many bytes that counted.
+fn decode_into(frame: &[u8], store: &mut [u8], at: usize) -> usize
+    requires { ⌜ at + ROOM ≤ length (now store) ⌝ }
+    ensures { λ r. ⌜ (r, now (store .exit)) ≡ decodedAt (now (frame .entry)) (now (store .entry)) at ⌝ }
+{
+    store::copy_in(&[0u8; 855], store, at);
+    let from = at + 31;
+    let end = at + ROOM_LEN;
+    match decode_payload(frame, &mut store[from..end]) {
+        Decoded::Payload(n) => n,
+        Decoded::MalformedKissFrame => 0,
+    }
+}
+
+// The room at `at` holds n bytes of payload from its byte 31 on: before them come the LSF and the type byte, behind them the CRC.
+fn seal(store: &mut [u8], at: usize, n: usize)
+    requires { ⌜ (at + ROOM ≤ length (now store)) × (n ≤ 822) ⌝ }
+    ensures { λ _. ⌜ now (store .exit) ≡ sealedAt (now (store .entry)) at n ⌝ }
+{
+    let lsf = LsfFrame::packet_basic();
+    store::copy_in(&lsf.0, store, at);
+    let from = at + 30;
+    store[from] = RAW;
+    let end = from + 1 + n;
+    let crc = crc::m17_crc(&store[from..end]);
+    store[end] = (crc / 256) as u8;
+    store[end + 1] = (crc % 256) as u8;
 }

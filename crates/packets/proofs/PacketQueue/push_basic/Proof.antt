@@ -10,11 +10,10 @@ use Rattle.kiss_read.specs.Read.{decoded}
 use Rattle.packets.specs.declared.PushAnswer.the-variants.{Queued}
 use Rattle.packets.specs.Frames.{zeros}
 use Rattle.packets.specs.Queue.{ROOM, STORE, soundQueue, basicRoom, madeBasic, withPacket, stored, obeyed, pushedBasic}
-use Rattle.packet_room.specs.Inside.{zeros as blank, isPayload}
-use Rattle.packet_room.proofs.Decoding.{any-room}
+use Rattle.packets.specs.Inside.{isPayload}
 use Rattle.packets.proofs.Bounds.{at-here}
 use Rattle.packets.proofs.Cases.{pushing-wrong, pushing-unsound, pushing-full, pushing-obeyed, basic-malformed, basic-overlong, basic-fills}
-use Rattle.packets.proofs.Rooms.{decoded-count, cleared-again, sealed-after}
+use Rattle.packets.proofs.Rooms.{decoded-count, decoded-keeps, cleared-again, sealed-after}
 use Rattle.packets.proofs.PacketQueue.push_basic.Statement.{statement}
 use Rattle.packets.proofs.PacketQueue.push_basic.Tie as tie
 
@@ -38,7 +37,7 @@ module _ (h : tie.Else4) where
   free = h .before .before
 
   payload : isPayload (decoded (start free .args .frame .now) (zeros 1) .0) ≡ true
-  payload = any-room (start free .args .frame .now) (zeros 1) (blank 1) ∙ sym (h .before .has-payload .ensures) ∙ not-false _ (h .if4 .left)
+  payload = sym (h .before .has-payload .ensures) ∙ not-false _ (h .if4 .left)
 
   fits : ROOM * start free .args .self .next + ROOM ≤ length (start free .args .store .now)
   fits = omega (arith, below free, whole free)
@@ -69,15 +68,15 @@ returns-4 c =
     let h = c .before .before in let g = h .before in let a = start g .args in
     (λ t. (c .answered4 .ensures t, a .store .now))
     ∙ pushing-obeyed (a .self) (a .store .now) (madeBasic (a .frame .now)) (whole g) (sound g) (g .if3 .left)
-    (basic-malformed (a .frame .now) (any-room (a .frame .now) (zeros 1) (blank 1) ∙ sym (h .has-payload .ensures) ∙ not-true _ (c .before .if4 .taken)))
+    (basic-malformed (a .frame .now) (sym (h .has-payload .ensures) ∙ not-true _ (c .before .if4 .taken)))
 
 returns-5 : tie.Need-returns-5
 unfolding pushedBasic obeyed
 returns-5 c =
     let y = c .before .before .before in let d = y .before .before .before .before .before .before in let h = d .before .before .before in
     let g = free h in let a = start g .args in
-    let n = decoded-count (a .frame .now) (a .store .now) (ROOM * a .self .next) (fits h) (d .decode-into .ensures) in
-    let s = cleared-again (a .frame .now) (a .store .now) (ROOM * a .self .next) (fits h) (d .decode-into .ensures) (y .copy-in .ensures) in
+    let n = decoded-count (a .frame .now) (a .store .now) (ROOM * a .self .next) (d .decode-into .ensures) in
+    let s = cleared-again (a .frame .now) (a .store .now) (ROOM * a .self .next) (d .decode-into .ensures) (fits h) (y .copy-in .ensures) in
     (λ t. (c .answered5 .ensures t, s t))
     ∙ pushing-obeyed (a .self) (a .store .now) (madeBasic (a .frame .now)) (whole g) (sound g) (g .if3 .left)
     (basic-overlong (a .frame .now) (payload h) (omega (arith, n, y .before .before .before .if5 .taken)))
@@ -87,12 +86,17 @@ unfolding pushedBasic obeyed
 returns-6 c =
     let y = c .before .before .before in let d = y .before .before .before .before .before in let h = d .before .before .before in
     let g = free h in let a = start g .args in
-    let n = decoded-count (a .frame .now) (a .store .now) (ROOM * a .self .next) (fits h) (d .decode-into .ensures) in
+    let n = decoded-count (a .frame .now) (a .store .now) (ROOM * a .self .next) (d .decode-into .ensures) in
     let k = y .before .before .if5 .left in
-    let s = sealed-after (a .frame .now) (a .store .now) (ROOM * a .self .next) (fits h) (d .decode-into .ensures) k (y .seal .ensures) in
+    let s = sealed-after (a .frame .now) (a .store .now) (ROOM * a .self .next) (d .decode-into .ensures) (fits h) k (y .seal .ensures) in
     (λ t. (c .accepted .ensures t, s t))
     ∙ ap (λ (m : ℕ). (record { answer = Queued; queue = withPacket (a .self) (m + 3) }, stored (a .store .now) (a .self .next) (basicRoom m (decoded (a .frame .now) (zeros 824) .1)))) n
     ∙ pushing-obeyed (a .self) (a .store .now) (madeBasic (a .frame .now)) (whole g) (sound g) (g .if3 .left) (basic-fills (a .frame .now) (payload h) (omega (arith, n, k)))
+
+seal-requires : tie.Need-seal-requires
+seal-requires c κs =
+    let d = c .before .before .before .before in let h = d .before .before .before in let a = start (free h) .args in
+    (omega (arith, fits h, decoded-keeps (a .frame .now) (a .store .now) (ROOM * a .self .next) (d .decode-into .ensures) (fits h)), c .before .if5 .left)
 
 pub push-basic-spec : {M : Type 1} → statement M
 push-basic-spec =
@@ -109,13 +113,13 @@ push-basic-spec =
     (λ c κs. search needs)
     returns-4
     (λ c. omega (arith, below (free (c .before))))
-    (λ c κs. search needs)
+    (λ c κs. fits (c .before .before))
     (λ c. search needs)
     (λ c κs. search needs)
     (λ c κs. search needs)
     (λ c. search needs)
     returns-5
-    (λ c κs. search needs)
+    seal-requires
     (λ c. search needs)
     (λ c κs. below (free (c .before .before .before .before .before .before .before .before .before .before)))
     (λ c. search needs)

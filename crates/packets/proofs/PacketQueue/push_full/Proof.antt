@@ -14,7 +14,7 @@ use Rattle.kiss_read.specs.Read.{decoded}
 use Rattle.packets.specs.Frames.{zeros}
 use Rattle.packets.specs.Queue.{ROOM, STORE, soundQueue, madeFull, obeyed, pushedFull}
 use Rattle.packets.proofs.Bounds.{at-here}
-use Rattle.packet_room.proofs.Decoding.{in-room}
+use Rattle.packets.proofs.Decoding.{in-room}
 use Rattle.packets.proofs.Rooms.{length-zeros}
 use Rattle.packets.proofs.Cases.{pushing-wrong, pushing-unsound, pushing-full, pushing-obeyed, full-malformed, full-short, full-unsealed, full-fills}
 use Rattle.packets.proofs.PacketQueue.push_full.Statement.{statement}

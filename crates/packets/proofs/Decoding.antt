@@ -11,7 +11,7 @@ use Rattle.kiss_read.specs.declared.Decoded.{Decoded}
 use Rattle.kiss_read.specs.declared.Decoded.the-variants.{Payload, MalformedKissFrame}
 use Rattle.kiss_read.specs.Scan.{stretch, afterFends}
 use Rattle.kiss_read.specs.Read.{contentIn, payloadAt, decoded}
-use Rattle.packet_room.specs.Inside.{isPayload, countOf}
+use Rattle.packets.specs.Inside.{isPayload, countOf}
 
 pub no-payload : (x : Decoded) → isPayload x ≡ false → x ≡ MalformedKissFrame
 no-payload (Payload n) e = absurd (false≢true (sym e))
