@@ -1,0 +1,25 @@
+// Writes the modules of m17core as they stand in the folder M17_RUST, each file included unchanged, and links the archive of crate iflazrud.
+use std::{env, fs, path::Path};
+
+fn main() {
+    println!("cargo:rerun-if-env-changed=M17_RUST");
+    let here = env::var("CARGO_MANIFEST_DIR").unwrap();
+    let folder = env::var("M17_RUST").unwrap_or(format!("{here}/../../../shared/docs/src/src"));
+    let folder = fs::canonicalize(&folder).unwrap_or_else(|e| panic!("the folder of the Rust, {folder}: {e}"));
+    let file = |name: &str| format!("include!({:?});", folder.join(name).display().to_string());
+    let text = [
+        format!("#[allow(dead_code)] pub mod address {{ {} }}", file("address.rs")),
+        format!("pub mod crc {{ use crate::stand_ins::crc; {} }}", file("crc.rs")),
+        format!(
+            "#[allow(dead_code)] pub mod kiss {{ {} pub fn inside_escape(src: &[u8], dst: &mut [u8]) -> usize {{ escape(src, dst) }} pub fn inside_unescape(src: &[u8], dst: &mut [u8]) -> usize {{ unescape(src, dst) }} }}",
+            file("kiss.rs")
+        ),
+        format!("#[allow(dead_code)] pub mod protocol {{ {} }}", file("protocol.rs")),
+        "pub mod bits { pub use crate::stand_ins::bits::*; }".to_string(),
+    ]
+    .join("\n");
+    fs::write(Path::new(&env::var("OUT_DIR").unwrap()).join("m17core.rs"), text).unwrap();
+    println!("cargo:rustc-link-search=native={here}/../../target/staticlib");
+    println!("cargo:rustc-link-lib=static=iflazrud");
+    println!("cargo:rerun-if-changed={here}/../../target/staticlib/libiflazrud.a");
+}

@@ -1,0 +1,195 @@
+// Both sides from one driver on the same input. `bench` prints a table of medians; `bench SIDE WHAT N` runs one side N times, for whoever counts instructions.
+mod stand_ins;
+include!(concat!(env!("OUT_DIR"), "/m17core.rs"));
+use std::hint::black_box;
+use std::time::Instant;
+
+#[repr(C)]
+#[derive(Clone, Copy)]
+pub struct Counted {
+    number: u8,
+    count: usize,
+}
+#[repr(C)]
+#[derive(Clone, Copy)]
+pub struct Reader {
+    filled: usize,
+    taken: bool,
+}
+#[repr(C)]
+#[derive(Clone, Copy)]
+pub struct ReaderAnswer {
+    number: u8,
+    count: usize,
+    reader: Reader,
+}
+
+// A slice is its pointer and its length.
+extern "C" {
+    fn iflazrud_m17_crc(bytes: *const u8, n: usize) -> u16;
+    fn iflazrud_escape(src: *const u8, n: usize, dst: *mut u8, room: usize) -> Counted;
+    fn iflazrud_unescape(src: *const u8, n: usize, dst: *mut u8, room: usize) -> usize;
+    fn iflazrud_new_full_packet(lsf: *const u8, l: usize, packet: *const u8, n: usize, room: *mut u8, m: usize) -> Counted;
+    fn iflazrud_reader_write(reader: Reader, offered: *const u8, n: usize, store: *mut u8, m: usize) -> ReaderAnswer;
+    fn iflazrud_reader_next(reader: Reader, store: *mut u8, m: usize) -> ReaderAnswer;
+}
+
+struct Input {
+    data: Vec<u8>,
+    escaped: Vec<u8>,
+    out: Vec<u8>,
+    frames: Vec<u8>,
+}
+
+// Bytes for a name: without specials, random, all special.
+fn bytes(kind: &str, n: usize) -> Vec<u8> {
+    let mut x = 0x2545F491u32;
+    (0..n)
+        .map(|_| {
+            x ^= x << 13;
+            x ^= x >> 17;
+            x ^= x << 5;
+            match kind {
+                "plain" => (x >> 8) as u8 & 0x7F,
+                "special" => if x & 0x100 == 0 { 0xC0 } else { 0xDB },
+                _ => (x >> 8) as u8,
+            }
+        })
+        .collect()
+}
+
+fn input(kind: &str, n: usize) -> Input {
+    let data = bytes(kind, n);
+    let mut escaped = vec![0; 2 * n];
+    let m = kiss::inside_escape(&data, &mut escaped);
+    escaped.truncate(m);
+    let mut frames = Vec::new();
+    while frames.len() < 20_000 {
+        frames.extend_from_slice(kiss::KissFrame::new_basic_packet(&bytes("random", 200)).unwrap().as_bytes());
+    }
+    Input { data, escaped, out: vec![0; 2 * n], frames }
+}
+
+fn ours_reader(frames: &[u8], piece: usize) -> usize {
+    let mut store = [0u8; 1713];
+    let mut reader = Reader { filled: 0, taken: false };
+    let (mut at, mut sum) = (0, 0);
+    while at < frames.len() {
+        let end = (at + piece).min(frames.len());
+        let a = unsafe { iflazrud_reader_write(reader, frames[at..].as_ptr(), end - at, store.as_mut_ptr(), 1713) };
+        assert!(a.number == 0);
+        reader = a.reader;
+        at += a.count;
+        loop {
+            let f = unsafe { iflazrud_reader_next(reader, store.as_mut_ptr(), 1713) };
+            reader = f.reader;
+            if f.count == 0 {
+                break;
+            }
+            sum += f.count;
+        }
+    }
+    sum
+}
+
+fn rust_reader(frames: &[u8], piece: usize) -> usize {
+    let mut buffer = kiss::KissBuffer::new();
+    let (mut at, mut sum) = (0, 0);
+    while at < frames.len() {
+        let end = (at + piece).min(frames.len());
+        let room = buffer.buf_remaining();
+        let n = room.len().min(end - at);
+        room[..n].copy_from_slice(&frames[at..at + n]);
+        buffer.did_write(n);
+        at += n;
+        while let Some(f) = buffer.next_frame() {
+            sum += f.as_bytes().len();
+        }
+    }
+    sum
+}
+
+fn once(ours: bool, what: &str, x: &mut Input) -> usize {
+    let lsf = [7u8; 30];
+    let d = black_box(&x.data[..]);
+    match (what.split('-').next().unwrap(), ours) {
+        ("crc", true) => unsafe { iflazrud_m17_crc(d.as_ptr(), d.len()) as usize },
+        ("crc", false) => crc::m17_crc(d) as usize,
+        ("escape", true) => unsafe { iflazrud_escape(d.as_ptr(), d.len(), x.out.as_mut_ptr(), x.out.len()).count },
+        ("escape", false) => kiss::inside_escape(d, &mut x.out),
+        ("unescape", true) => unsafe { iflazrud_unescape(x.escaped.as_ptr(), x.escaped.len(), x.out.as_mut_ptr(), d.len()) },
+        ("unescape", false) => kiss::inside_unescape(&x.escaped, &mut x.out[..d.len()]),
+        ("build", true) => {
+            let mut room = [0u8; 1713];
+            let r = unsafe { iflazrud_new_full_packet(lsf.as_ptr(), 30, d.as_ptr(), d.len(), room.as_mut_ptr(), 1713) };
+            black_box(&room);
+            r.count
+        }
+        ("build", false) => {
+            let f = kiss::KissFrame::new_full_packet(&lsf, d).unwrap();
+            black_box(&f).as_bytes().len()
+        }
+        ("reader", true) => ours_reader(&x.frames, piece(what)),
+        ("reader", false) => rust_reader(&x.frames, piece(what)),
+        _ => panic!("what is {what}?"),
+    }
+}
+
+fn piece(what: &str) -> usize {
+    what.rsplit('-').next().unwrap().parse().unwrap()
+}
+
+fn prepared(what: &str) -> Input {
+    match what.split('-').next().unwrap() {
+        "crc" | "build" => input("random", 825),
+        "reader" => input("plain", 1),
+        _ => input(what.rsplit('-').next().unwrap(), 855),
+    }
+}
+
+const ALL: [&str; 11] = [
+    "crc", "escape-plain", "escape-random", "escape-special", "unescape-plain", "unescape-random", "unescape-special", "build", "reader-1", "reader-64", "reader-1713",
+];
+
+fn seconds(ours: bool, what: &str, x: &mut Input, n: usize) -> f64 {
+    let t = Instant::now();
+    for _ in 0..n {
+        black_box(once(ours, what, x));
+    }
+    t.elapsed().as_secs_f64() / n as f64
+}
+
+fn median(mut v: Vec<f64>) -> f64 {
+    v.sort_by(f64::total_cmp);
+    v[v.len() / 2]
+}
+
+fn main() {
+    let words: Vec<String> = std::env::args().skip(1).collect();
+    if words.first().map(String::as_str) == Some("names") {
+        println!("{}", ALL.join(" "));
+        return;
+    }
+    if words.len() == 3 {
+        let mut x = prepared(&words[1]);
+        let mut sum = 0usize;
+        for _ in 0..words[2].parse::<usize>().unwrap() {
+            sum = sum.wrapping_add(black_box(once(words[0] == "ours", &words[1], &mut x)));
+        }
+        println!("{sum}");
+        return;
+    }
+    println!("{:18} {:>10} {:>10} {:>7}", "what", "ours, ns", "Rust, ns", "ratio");
+    for what in ALL {
+        let mut x = prepared(what);
+        assert_eq!(once(true, what, &mut x), once(false, what, &mut x), "{what}: the sides differ");
+        let n = (0.01 / seconds(false, what, &mut x, 3)).clamp(3.0, 20000.0) as usize;
+        let (mut a, mut b) = (Vec::new(), Vec::new());
+        for _ in 0..15 {
+            a.push(seconds(true, what, &mut x, n));
+            b.push(seconds(false, what, &mut x, n));
+        }
+        let (a, b) = (median(a), median(b));
+        println!("{what:18} {:10.0} {:10.0} {:7.2}", a * 1e9, b * 1e9, a / b);
+    }
+}
