@@ -31,8 +31,8 @@ use Rattle.tnc_modulator.specs.declared.TxRead.{TxRead}
 use Rattle.tnc_modulator.specs.Modulator.{keyedUp, afterStream, streamRead, afterPacket, packetRead}
 use Rattle.tnc_modulator.proofs.Outcomes.{Passed, none-waits, held-back, keyed-up, in-stream, stream-over, in-packets, ending, sound-outcome}
 use Rattle.tnc_core.specs.declared.Tnc.{Tnc}
-use Rattle.tnc.specs.declared.TncTx.{TncTx}
-use Rattle.tnc.specs.Calls.{putGiven}
+use Rattle.tnc_transmit.specs.declared.TncTx.{TncTx}
+use Rattle.tnc_transmit.specs.Calls.{putGiven}
 use Rattle.any_calls.specs.Calls.{World, Call, writeKiss, readKiss, handleLsf, handlePacket, handleStream, setDataCarrierDetect, setNow, setTxEndTime, ptt, readTxFrame, lsfIn, packetIn, streamIn, after, run}
 use Rattle.any_calls.specs.Promises.{AllTyped, Sound}
 use Rattle.any_calls.proofs.Kept.{tx, tx-sound, sound-stays-sound}

@@ -37,8 +37,8 @@ use Rattle.tnc_core.specs.Tnc.{FARTHEST, soundTnc, pttOf, withState, onClock, n
 use Rattle.tnc_core.specs.Promises.{BothSound, Kept}
 use Rattle.tnc_core.proofs.Bounds.{Parts, parts, joined}
 use Rattle.tnc_core.proofs.Kept as core
-use Rattle.tnc.specs.declared.TncTx.{TncTx}
-use Rattle.tnc.specs.Calls.{notGiven, putGiven, tncTx}
+use Rattle.tnc_transmit.specs.declared.TncTx.{TncTx}
+use Rattle.tnc_transmit.specs.Calls.{notGiven, putGiven, tncTx}
 use Rattle.any_calls.specs.Calls.{World, newWorld, Call, writeKiss, readKiss, handleLsf, handlePacket, handleStream, setDataCarrierDetect, setNow, setTxEndTime, ptt, readTxFrame, hears, lsfIn, packetIn, streamIn, gives, withBoth, afterTimed, after, number, run}
 use Rattle.any_calls.specs.Promises.{Sound, NewIsSound, Typed, AllTyped, SoundStaysSound, SoundIsAnswered, AnyCallsStaySound, RefusedKeepsAll}
 use Rattle.any_calls.proofs.Host.{write-refused, write-sound, write-fine, read-refused, read-sound, read-fine}

@@ -39,8 +39,8 @@ use Rattle.tnc_modulator.specs.Modulator.{keyedUp, streamRead, packetAnswer, pa
 use Rattle.tnc_modulator.specs.Promises.{readOf}
 use Rattle.tnc_modulator.proofs.Outcomes.{sound-packets, Passed, none-waits, held-back, keyed-up, in-stream, stream-over, in-packets, ending, sound-outcome}
 use Rattle.tnc_core.specs.declared.Tnc.{Tnc}
-use Rattle.tnc.specs.declared.TncTx.{TncTx}
-use Rattle.tnc.specs.Calls.{putGiven, tncTx}
+use Rattle.tnc_transmit.specs.declared.TncTx.{TncTx}
+use Rattle.tnc_transmit.specs.Calls.{putGiven, tncTx}
 use Rattle.any_calls.specs.Calls.{World, Call, writeKiss, readKiss, handleLsf, handlePacket, handleStream, setDataCarrierDetect, setNow, setTxEndTime, ptt, readTxFrame, writes, gives, after, run}
 use Rattle.any_calls.specs.Promises.{Sound, AllTyped}
 use Rattle.any_calls.specs.Queues.{ofData, packetsIn, broughtBy, hostOf, framesAfter, brings, packetFrame, inPackets, readIn, overAll}

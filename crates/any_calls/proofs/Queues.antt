@@ -38,8 +38,8 @@ use Rattle.tnc_modulator.proofs.Outcomes.{sound-packets}
 use Rattle.tnc_core.specs.declared.Tnc.{Tnc}
 use Rattle.tnc_core.specs.Tnc.{soundTnc}
 use Rattle.tnc_core.proofs.Kept as core
-use Rattle.tnc.specs.declared.TncTx.{TncTx}
-use Rattle.tnc.specs.Calls.{putGiven}
+use Rattle.tnc_transmit.specs.declared.TncTx.{TncTx}
+use Rattle.tnc_transmit.specs.Calls.{putGiven}
 use Rattle.any_calls.specs.Calls.{World, Call, readTxFrame, gives, run}
 use Rattle.any_calls.specs.Promises.{Sound, AllTyped}
 use Rattle.any_calls.specs.Queues.{packetFrame, inPackets, readIn}

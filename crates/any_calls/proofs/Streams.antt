@@ -28,8 +28,8 @@ use Rattle.tnc_modulator.specs.declared.TxRead.{TxRead}
 use Rattle.tnc_modulator.specs.Modulator.{keyedUp, streamAnswer, streamRead, packetRead}
 use Rattle.tnc_modulator.proofs.Outcomes.{Passed, none-waits, held-back, keyed-up, in-stream, stream-over, in-packets, ending, sound-outcome}
 use Rattle.tnc_core.specs.declared.Tnc.{Tnc}
-use Rattle.tnc.specs.declared.TncTx.{TncTx}
-use Rattle.tnc.specs.Calls.{putGiven}
+use Rattle.tnc_transmit.specs.declared.TncTx.{TncTx}
+use Rattle.tnc_transmit.specs.Calls.{putGiven}
 use Rattle.any_calls.specs.Calls.{World, Call, gives, run}
 use Rattle.any_calls.specs.Promises.{Sound, AllTyped}
 use Rattle.any_calls.specs.Queues.{ofData, streamsIn, brings, streamFrame, inStreams, readIn, overAll}

@@ -10,8 +10,8 @@ use Rattle.tnc_core.specs.declared.Ptt.{Ptt}
 use Rattle.tnc_core.specs.Tnc.{pttOf, nowSet, endTimeSet}
 use Rattle.tnc.specs.declared.TncWritten.{TncWritten}
 use Rattle.tnc.specs.declared.TncRead.{TncRead}
-use Rattle.tnc.specs.declared.TncHeard.{TncHeard}
-use Rattle.tnc.specs.declared.TncTx.{TncTx}
+use Rattle.tnc_receive.specs.declared.TncHeard.{TncHeard}
+use Rattle.tnc_transmit.specs.declared.TncTx.{TncTx}
 use Rattle.any_calls.specs.Calls.{World, Call, writeKiss, readKiss, handleLsf, handlePacket, handleStream, setDataCarrierDetect, setNow, setTxEndTime, ptt, readTxFrame, writes, reads, hears, lsfIn, packetIn, streamIn, gives}
 
 -- all that a call gives back: its result, and behind it the stores that it may write, as it leaves them

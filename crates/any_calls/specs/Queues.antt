@@ -25,7 +25,7 @@ use Rattle.host_frame.specs.Promises.{Box as HostBox, after as afterFrame}
 use Rattle.tnc_host.specs.Bytes.{readerBox, hostBox, framesHeld}
 use Rattle.tnc_modulator.specs.declared.TxAnswer.{TxAnswer}
 use Rattle.tnc_modulator.specs.declared.TxAnswer.the-variants.{Nothing, Preamble, Lsf, Stream, Packet as Piece, EndOfTransmission, WrongStore, OutOfBounds}
-use Rattle.tnc.specs.declared.TncTx.{TncTx}
+use Rattle.tnc_transmit.specs.declared.TncTx.{TncTx}
 use Rattle.any_calls.specs.Calls.{World, Call, writeKiss, readKiss, handleLsf, handlePacket, handleStream, setDataCarrierDetect, setNow, setTxEndTime, ptt, readTxFrame, writes, gives, after}
 
 -- ---- from the host

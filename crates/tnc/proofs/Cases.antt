@@ -1,7 +1,7 @@
 -- The cases of the TNC's calls: each from the tests on the way to it. Assumes nothing.
 use Prim.Native.Nat.{ℕ}
 use mathlib.Core.Bool.{true, false}
-use mathlib.Core.Path.{_≡_, sym, ap, _∙_}
+use mathlib.Core.Path.{_≡_}
 use mathlib.Core.List.{List}
 use lib.ListN.{length}
 use borrow.Author.Tests.{eq-eqb, ne-eqb}
@@ -11,20 +11,12 @@ use Rattle.kiss_buffer.specs.declared.WriteAnswer.the-variants.{WrongStore as N
 use Rattle.kiss_buffer.specs.Reader.{STORE as READER}
 use Rattle.packets.specs.Queue.{STORE as PACKETS}
 use Rattle.streams.specs.Queue.{STORE as STREAMS}
-use Rattle.radio.specs.declared.Heard.{Heard}
-use Rattle.radio.specs.declared.Hears.{Hears}
 use Rattle.tnc_host.specs.declared.KissWritten.{KissWritten}
 use Rattle.tnc_host.specs.Bytes.{kissWritten}
 use Rattle.tnc_core.specs.declared.Tnc.{Tnc}
 use Rattle.tnc_core.specs.Tnc.{soundTnc}
 use Rattle.tnc.specs.declared.TncWritten.{TncWritten}
-use Rattle.tnc.specs.Calls.{notWritten, putBack, tncWritten, tncHears, heardBy, airHeard}
-
--- what a frame from the air does, once it is known whether the TNC hears it
-pub heard-as : (t : Tnc) (rx message : List ℕ) (h : Heard × List ℕ × List ℕ) {k : Hears} (v : Hears) → k ≡ tncHears t rx message → k ≡ v
-    → heardBy v t rx message h ≡ airHeard t rx message h
-unfolding airHeard
-heard-as t rx message h v e q = ap (λ (m : Hears). heardBy m t rx message h) (sym q ∙ e)
+use Rattle.tnc.specs.Calls.{notWritten, putBack, tncWritten}
 
 module _ (t : Tnc) (c : Channel) (buf reader packets streams : List ℕ) where
   module _ {x : TncWritten} where

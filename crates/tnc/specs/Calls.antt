@@ -1,7 +1,6 @@
--- The TNC's calls on its record, the channel and the stores: each tests its stores (7) and all of the record (8), and then does what its part does, from document 01's
--- "The TNC" and "Answer numbers". Assumes nothing.
+-- The TNC's calls of the host on its record, the channel and the stores: each tests its stores (7) and all of the record (8), and then does what its part does, from document
+-- 01's "The TNC" and "Answer numbers". Assumes nothing.
 use Prim.Native.Nat.{ℕ}
-use mathlib.Core.Bool.{Bool}
 use mathlib.Core.List.{List}
 use lib.Dec.{eqb}
 use lib.ListN.{length}
@@ -15,27 +14,15 @@ use Rattle.outgoing.specs.declared.HostAnswer.the-variants.{WrongStore as NoMes
 use Rattle.outgoing.specs.declared.HostRead.{HostRead}
 use Rattle.outgoing.specs.declared.Outgoing.{Outgoing}
 use Rattle.outgoing.specs.Message.{hostRead}
-use Rattle.packets.specs.Queue.{STORE as PACKETS, noFrame as noPiece}
-use Rattle.streams.specs.Queue.{STORE as STREAMS, noLsf, noFrame}
-use Rattle.state.specs.State.{transmits}
-use Rattle.radio.specs.declared.AirAnswer.{AirAnswer}
-use Rattle.radio.specs.declared.AirAnswer.the-variants.{WrongStore as NoAirStore, OutOfBounds as NoAirState}
-use Rattle.radio.specs.declared.Heard.{Heard}
-use Rattle.radio.specs.declared.Hears.{Hears}
-use Rattle.radio.specs.declared.Hears.the-variants.{Frame, Answer}
-use Rattle.radio.specs.Radio.{RX, MESSAGE}
+use Rattle.packets.specs.Queue.{STORE as PACKETS}
+use Rattle.streams.specs.Queue.{STORE as STREAMS}
+use Rattle.radio.specs.Radio.{MESSAGE}
 use Rattle.tnc_host.specs.declared.KissWritten.{KissWritten}
 use Rattle.tnc_host.specs.Bytes.{kissWritten}
-use Rattle.tnc_modulator.specs.declared.TxAnswer.{TxAnswer}
-use Rattle.tnc_modulator.specs.declared.TxAnswer.the-variants.{WrongStore as NoTxStore, OutOfBounds as NoTxState}
-use Rattle.tnc_modulator.specs.declared.TxRead.{TxRead}
-use Rattle.tnc_modulator.specs.Modulator.{txRead}
 use Rattle.tnc_core.specs.declared.Tnc.{Tnc}
 use Rattle.tnc_core.specs.Tnc.{soundTnc, withRadio}
 use Rattle.tnc.specs.declared.TncWritten.{TncWritten}
 use Rattle.tnc.specs.declared.TncRead.{TncRead}
-use Rattle.tnc.specs.declared.TncHeard.{TncHeard}
-use Rattle.tnc.specs.declared.TncTx.{TncTx}
 
 -- ---- from the host
 
@@ -83,52 +70,3 @@ tncRead t message target =
     (let r = hostRead (t .radio .outgoing) message target in (hasRead t (r .0), r .1))
     (notRead NoMessageState t, target))
     (notRead NoMessageStore t, target)
-
--- ---- from the air
-
-abbrev pub notHeard : AirAnswer → Tnc → TncHeard
-notHeard a t = record { answer = a; tnc = t }
-
--- a frame changes state and message, and PTT follows the state
-abbrev pub putHeard : Tnc → Heard → TncHeard
-putHeard t h = record { answer = h .answer; tnc = withRadio t (h .radio) }
-
-unfoldable pub tncHears : Tnc → List ℕ → List ℕ → Hears
-tncHears t rx message =
-    pick (eqb (length rx) RX)
-    (pick (eqb (length message) MESSAGE) (pick (soundTnc t) Frame (Answer NoAirState)) (Answer NoAirStore))
-    (Answer NoAirStore)
-
-abbrev pub heardBy : Hears → Tnc → List ℕ → List ℕ → Heard × List ℕ × List ℕ → TncHeard × List ℕ × List ℕ
-heardBy Frame t rx message h = (putHeard t (h .0), h .1, h .2)
-heardBy (Answer a) t rx message h = (notHeard a t, rx, message)
-
--- what a frame of any kind does, once the radio has done what it does with it
-unfoldable pub airHeard : Tnc → List ℕ → List ℕ → Heard × List ℕ × List ℕ → TncHeard × List ℕ × List ℕ
-airHeard t rx message h = heardBy (tncHears t rx message) t rx message h
-
--- ---- to the modulator
-
-abbrev pub notGiven : TxAnswer → Tnc → Channel → TncTx
-notGiven a t c = record { answer = a; «tx_delay» = 0; lsf = noLsf; stream = noFrame; packet = noPiece; tnc = t; channel = c }
-
--- a read changes the state, what waits to be sent and the channel; PTT follows the state
-abbrev pub putGiven : Tnc → TxRead → TncTx
-putGiven t r =
-    record {
-      answer = r .answer;
-      «tx_delay» = r .«tx_delay»;
-      lsf = r .lsf;
-      stream = r .stream;
-      packet = r .packet;
-      tnc = record { buffer = t .buffer; sending = r .sending; radio = record { state = r .state; outgoing = t .radio .outgoing }; ptt = transmits (r .state) };
-      channel = r .channel;
-    }
-
-unfoldable pub tncTx : Tnc → Channel → List ℕ → List ℕ → TncTx
-tncTx t c packets streams =
-    pick (eqb (length packets) PACKETS)
-    (pick (eqb (length streams) STREAMS)
-    (pick (soundTnc t) (putGiven t (txRead (t .radio .state) (t .sending) c packets streams)) (notGiven NoTxState t c))
-    (notGiven NoTxStore t c))
-    (notGiven NoTxStore t c)

@@ -1,10 +1,10 @@
--- `tnc::put_heard` meets its contract. Assumes nothing.
+-- `tnc_receive::put_heard` meets its contract. Assumes nothing.
 use mathlib.Core.Path.{ap, _∙_}
 use borrow.Author.Needs.{needs}
 use Rattle.tnc_core.specs.declared.Tnc.{Tnc}
-use Rattle.tnc.specs.Calls.{notHeard}
-use Rattle.tnc.proofs.put_heard.Statement.{statement}
-use Rattle.tnc.proofs.put_heard.Tie as tie
+use Rattle.tnc_receive.specs.Calls.{notHeard}
+use Rattle.tnc_receive.proofs.put_heard.Statement.{statement}
+use Rattle.tnc_receive.proofs.put_heard.Tie as tie
 
 returns : tie.Need-returns
 returns c =

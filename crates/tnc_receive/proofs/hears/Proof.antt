@@ -1,9 +1,9 @@
--- `tnc::hears` meets its contract. Assumes nothing.
+-- `tnc_receive::hears` meets its contract. Assumes nothing.
 use borrow.Author.Needs.{needs}
 use Rattle.choice.specs.Pick.{callees}
-use Rattle.tnc.specs.Calls.{tncHears}
-use Rattle.tnc.proofs.hears.Statement.{statement}
-use Rattle.tnc.proofs.hears.Tie as tie
+use Rattle.tnc_receive.specs.Calls.{tncHears}
+use Rattle.tnc_receive.proofs.hears.Statement.{statement}
+use Rattle.tnc_receive.proofs.hears.Tie as tie
 
 returns : tie.Need-returns
 unfolding tncHears

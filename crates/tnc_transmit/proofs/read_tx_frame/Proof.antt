@@ -1,11 +1,11 @@
--- `tnc::read_tx_frame` meets its contract. Assumes nothing.
+-- `tnc_transmit::read_tx_frame` meets its contract. Assumes nothing.
 use mathlib.Core.Path.{ap, _∙_}
 use borrow.Author.Needs.{needs}
 use borrow.Author.Tests.{eq-eqb, ne-eqb}
 use Rattle.choice.specs.Pick.{pick-yes, pick-no, not-yes, not-no}
-use Rattle.tnc.specs.Calls.{putGiven, tncTx}
-use Rattle.tnc.proofs.read_tx_frame.Statement.{statement}
-use Rattle.tnc.proofs.read_tx_frame.Tie as tie
+use Rattle.tnc_transmit.specs.Calls.{putGiven, tncTx}
+use Rattle.tnc_transmit.proofs.read_tx_frame.Statement.{statement}
+use Rattle.tnc_transmit.proofs.read_tx_frame.Tie as tie
 
 returns : tie.Need-returns
 unfolding tncTx

@@ -1,13 +1,13 @@
--- `tnc::not_given` meets its contract. Assumes nothing.
+-- `tnc_transmit::not_given` meets its contract. Assumes nothing.
 use mathlib.Core.Path.{ap}
 use lib.ListN.{replicate}
 use borrow.Author.Needs.{needs}
 use Rattle.protocol.specs.declared.StreamFrame.{StreamFrame}
 use Rattle.packets.specs.Queue.{noFrame as noPiece}
 use Rattle.streams.specs.Queue.{noLsf}
-use Rattle.tnc.specs.declared.TncTx.{TncTx}
-use Rattle.tnc.proofs.not_given.Statement.{statement}
-use Rattle.tnc.proofs.not_given.Tie as tie
+use Rattle.tnc_transmit.specs.declared.TncTx.{TncTx}
+use Rattle.tnc_transmit.proofs.not_given.Statement.{statement}
+use Rattle.tnc_transmit.proofs.not_given.Tie as tie
 
 returns : tie.Need-returns
 returns c =

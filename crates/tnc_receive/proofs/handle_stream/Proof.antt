@@ -1,4 +1,4 @@
--- `tnc::handle_stream` meets its contract. Assumes nothing.
+-- `tnc_receive::handle_stream` meets its contract. Assumes nothing.
 use Prim.Native.Nat.{ℕ}
 use mathlib.Core.Path.{ap, _∙_}
 use mathlib.Core.List.{List}
@@ -6,11 +6,11 @@ use borrow.Author.Needs.{needs}
 use Rattle.radio.specs.declared.Heard.{Heard}
 use Rattle.radio.specs.declared.Hears.the-variants.{Frame, Answer}
 use Rattle.tnc_stream.specs.Stream.{streamHeard}
-use Rattle.tnc.specs.declared.TncHeard.{TncHeard}
-use Rattle.tnc.specs.Calls.{putHeard}
-use Rattle.tnc.proofs.Cases.{heard-as}
-use Rattle.tnc.proofs.handle_stream.Statement.{statement}
-use Rattle.tnc.proofs.handle_stream.Tie as tie
+use Rattle.tnc_receive.specs.declared.TncHeard.{TncHeard}
+use Rattle.tnc_receive.specs.Calls.{putHeard}
+use Rattle.tnc_receive.proofs.Cases.{heard-as}
+use Rattle.tnc_receive.proofs.handle_stream.Statement.{statement}
+use Rattle.tnc_receive.proofs.handle_stream.Tie as tie
 
 returns : tie.Need-returns
 returns c =
