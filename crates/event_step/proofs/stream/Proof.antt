@@ -1,0 +1,36 @@
+-- `event_step::stream` meets its contract. Assumes nothing.
+use Prim.Native.Nat.{ℕ}
+use mathlib.Core.Path.{_≡_, ap, _∙_}
+use mathlib.Core.List.{List}
+use native.Mathlib.Omega.{arith}
+use borrow.Author.Needs.{needs}
+use lib.ListN.{length, replicate}
+use Rattle.protocol.specs.declared.StreamFrame.{StreamFrame}
+use Rattle.tnc_stream.specs.Stream.{streamHeard}
+use Rattle.tnc.specs.Calls.{airHeard}
+use Rattle.streams.specs.Layout.{frameOf}
+use Rattle.event_step.proofs.Answers.{heard-is, whole-copy}
+use Rattle.event_step.proofs.stream.Statement.{statement}
+use Rattle.event_step.proofs.stream.Tie as tie
+
+returns : tie.Need-returns
+returns c =
+    let a = c .before .before .before .before .before .before .before .before .before .before .before .before .before .before .before .before .before .before .before .args in let w = c .before .before .before .before .before .before .before .handle-stream in
+    let same : c .before .before .before .before .before .before .before .before .before .before .before .before .copy-in .last .1 .0 ≡ a .body .now = whole-copy (a .body .now) (replicate 25 0) (omega (arith, c .before .before .before .before .before .before .before .before .before .before .before .before .before .before .before .before .before .before .before .pre)) (c .before .before .before .before .before .before .before .before .before .before .before .before .copy-in .ensures) in
+    heard-is (a .before .channel) (w .result) (w .last .1 .1 .0) (w .last .1 .1 .1 .0) (c .answer .ensures) (c .before .air-number .ensures)
+    (w .ensures
+    ∙ ap (λ (f : StreamFrame). airHeard (a .before .tnc) (a .rx .now) (a .message .now) (streamHeard (a .before .tnc .radio) f (a .rx .now) (a .message .now))) (c .before .before .before .before .before .before .before .before .before .before .stream-frame .ensures ∙ ap frameOf same))
+
+pub stream-spec : {M : Type 1} → statement M
+stream-spec =
+    tie.close
+    (tie.spec
+    (λ c. search needs)
+    (λ c κs. search needs)
+    (λ c κs. search needs)
+    (λ c κs. search needs)
+    (λ c κs. search needs)
+    (λ c κs. search needs)
+    (λ c. search needs)
+    (λ c. search needs)
+    returns)
