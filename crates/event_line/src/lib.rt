@@ -35,7 +35,7 @@ const ONE: u8 = 0x31;
 const LETTER: u8 = 0x41;
 
 // How many bytes follow a kind. A kind that is not known has none.
-pub fn body_len(kind: u8) -> usize
+fn body_len(kind: u8) -> usize
     ensures { λ r. ⌜ r ≡ bodyLen kind ⌝ }
 {
     match kind {
