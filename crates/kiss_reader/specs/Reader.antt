@@ -7,7 +7,7 @@ use lib.Dec.{leb}
 use lib.ListN.{length, take, drop}
 use Rattle.choice.specs.Pick.{pick, and}
 use Rattle.kiss_read.specs.Scan.{isFend, stretch, afterFends}
-use Rattle.kiss_buffer.specs.Meaning.{enclosed}
+use Rattle.kiss_reader.specs.Meaning.{enclosed}
 
 -- the bytes held, first to last, and whether the frame at their front was handed out
 pub record Reader : Type 0 where

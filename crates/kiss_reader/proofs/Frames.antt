@@ -18,8 +18,8 @@ use Rattle.kiss_build.specs.Build.{Building, portOf, commandOf, contentOf, fram
 use Rattle.kiss_build.specs.Promises.{Accepted}
 use Rattle.kiss_build.proofs.Frames.{frame-length}
 use Rattle.kiss_build.proofs.Kept.{header-right, built-at-most-1713}
-use Rattle.kiss_buffer.specs.Meaning.{LONGEST, enclosed, kept, opened, framesOf}
-use Rattle.kiss_buffer.specs.Promises.{joined, Folds, ends, same, fold, AllAccepted, none-accepted, one-accepted}
+use Rattle.kiss_reader.specs.Meaning.{LONGEST, enclosed, kept, opened, framesOf}
+use Rattle.kiss_reader.specs.Promises.{joined, Folds, ends, same, fold, AllAccepted, none-accepted, one-accepted}
 
 -- ---- the first stretch of x ++ y: x's own, or x and y's
 

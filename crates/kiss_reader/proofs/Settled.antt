@@ -9,7 +9,7 @@ use borrow.Author.Tests.{eqb-true}
 use Rattle.choice.specs.Pick.{pick}
 use Rattle.kiss_escape.specs.Escape.{FEND}
 use Rattle.kiss_read.specs.Scan.{isFend, afterFends}
-use Rattle.kiss_buffer.specs.Reader.{fromFend, lastFend, settle}
+use Rattle.kiss_reader.specs.Reader.{fromFend, lastFend, settle}
 
 -- ---- shapes
 

@@ -11,12 +11,12 @@ use borrow.Author.Tests.{eqb-true, leb-true, leb-false}
 use Rattle.choice.specs.Pick.{pick, and}
 use Rattle.kiss_escape.specs.Escape.{FEND}
 use Rattle.kiss_read.specs.Scan.{isFend, stretch, afterFends}
-use Rattle.kiss_buffer.specs.Meaning.{enclosed, opened, framesOf}
-use Rattle.kiss_buffer.specs.Reader.{Reader, newReader, STORE, fromFend, lastFend, settle, flush, front, isSome, next, afterNext, isFull, refused, keptBack, takes, afterWrite}
-use Rattle.kiss_buffer.proofs.Settled.{Begun, none-begun, begins, begun, Settled, bare, alone, fronted, settled, settled-begun, settled-stays}
-use Rattle.kiss_buffer.specs.Inside.{settleAt}
-use Rattle.kiss_buffer.proofs.Indices.{settle-at}
-use Rattle.kiss_buffer.proofs.Frames.{stretch-append, kept-is, kept-long, clear-frames, fend-frames, fend-fend}
+use Rattle.kiss_reader.specs.Meaning.{enclosed, opened, framesOf}
+use Rattle.kiss_reader.specs.Reader.{Reader, newReader, STORE, fromFend, lastFend, settle, flush, front, isSome, next, afterNext, isFull, refused, keptBack, takes, afterWrite}
+use Rattle.kiss_reader.proofs.Settled.{Begun, none-begun, begins, begun, Settled, bare, alone, fronted, settled, settled-begun, settled-stays}
+use Rattle.kiss_reader.specs.Inside.{settleAt}
+use Rattle.kiss_reader.proofs.Indices.{settle-at}
+use Rattle.kiss_reader.proofs.Frames.{stretch-append, kept-is, kept-long, clear-frames, fend-frames, fend-fend}
 
 -- ---- the scans leave the frames as they are
 

@@ -15,10 +15,10 @@ use Rattle.choice.specs.Pick.{pick}
 use Rattle.kiss_escape.specs.Escape.{FEND}
 use Rattle.kiss_read.specs.Scan.{isFend, notFend, stretch, afterFends, runOf}
 use Rattle.kiss_read.proofs.Scans.{run-within, stretch-found, stretch-none}
-use Rattle.kiss_buffer.specs.Meaning.{enclosed}
-use Rattle.kiss_buffer.specs.Reader.{fromFend, lastFend, settle, front, isSome}
-use Rattle.kiss_buffer.specs.Inside.{settleAt}
-use Rattle.kiss_buffer.proofs.Settled.{Begun, none-begun, begins, begun, settled, settled-begun, settled-stays, begun-begins}
+use Rattle.kiss_reader.specs.Meaning.{enclosed}
+use Rattle.kiss_reader.specs.Reader.{fromFend, lastFend, settle, front, isSome}
+use Rattle.kiss_reader.specs.Inside.{settleAt}
+use Rattle.kiss_reader.proofs.Settled.{Begun, none-begun, begins, begun, settled, settled-begun, settled-stays, begun-begins}
 
 -- ---- settle
 
