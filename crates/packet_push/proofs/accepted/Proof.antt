@@ -1,8 +1,8 @@
--- `packets::PacketQueue::accepted` meets its contract. Assumes nothing.
+-- `packet_push::accepted` meets its contract. Assumes nothing.
 use borrow.Author.Needs.{needs}
 use Rattle.packets.specs.Queue.{withPacket}
-use Rattle.packets.proofs.PacketQueue.accepted.Statement.{statement}
-use Rattle.packets.proofs.PacketQueue.accepted.Tie as tie
+use Rattle.packet_push.proofs.accepted.Statement.{statement}
+use Rattle.packet_push.proofs.accepted.Tie as tie
 
 returns : tie.Need-returns
 unfolding withPacket
