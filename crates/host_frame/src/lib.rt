@@ -132,7 +132,7 @@ impl Host {
             return self.with_packets(after);
         }
         let queue = sending.streams;
-        let pushed = queue.push(frame, streams);
+        let pushed = stream_push::push(queue, frame, streams);
         let after = pushed.queue;
         self.with_streams(after)
     }

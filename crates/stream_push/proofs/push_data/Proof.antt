@@ -1,4 +1,4 @@
--- `streams::StreamQueue::push_data` meets its contract. Assumes nothing.
+-- `stream_push::push_data` meets its contract. Assumes nothing.
 use Prim.Native.Nat.{ℕ, _+_, _*_, _≤_}
 use mathlib.Core.Path.{_≡_, ap, _∙_}
 use mathlib.Core.List.{List}
@@ -8,12 +8,12 @@ use lib.ListN.{length}
 use lib.Seq.{sets-eq}
 use Rattle.store.specs.Room.{placed}
 use Rattle.store.proofs.Copies.{copied-in}
 use Rattle.streams.specs.declared.StreamAnswer.the-variants.{Queued}
 use Rattle.streams.specs.Layout.{FRAME}
 use Rattle.streams.specs.Queue.{queued}
 use Rattle.streams.proofs.Cases.{next-below, data-full, data-roomy}
-use Rattle.streams.proofs.StreamQueue.push_data.Statement.{statement}
-use Rattle.streams.proofs.StreamQueue.push_data.Tie as tie
+use Rattle.stream_push.proofs.push_data.Statement.{statement}
+use Rattle.stream_push.proofs.push_data.Tie as tie
 
 twenty-five : (c : tie.After-frame-bytes) → length (c .frame-bytes .result) ≡ FRAME
 twenty-five c = search needs
@@ -21,13 +21,13 @@ twenty-five c = search needs
 returns : tie.Need-returns
 returns c =
     let a = c .before .before .before .args in
-    (λ t. (c .unchanged .ensures t, a .store .now)) ∙ data-full (a .self) (a .payload) (a .store .now) (c .before .if1 .taken)
+    (λ t. (c .unchanged .ensures t, a .store .now)) ∙ data-full (a .queue) (a .payload) (a .store .now) (c .before .if1 .taken)
 
 returns-2 : tie.Need-returns-2
 unfolding queued
 returns-2 c =
     let y = c .before .before .before in let f = y .before .before .before in let s = f .before .before .before in
-    let q = s .args .self in let b = f .frame-bytes .result in let d = s .args .store .now in let at : ℕ = FRAME * (q .next) in
+    let q = s .args .queue in let b = f .frame-bytes .result in let d = s .args .store .now in let at : ℕ = FRAME * (q .next) in
     let fits : at + length b ≤ length d = omega (arith, twenty-five f, next-below q (s .pre .0), s .pre .1) in
     let e : y .copy-in .last .1 .0 ≡ placed b d at = copied-in b d at (y .copy-in .ensures) fits ∙ sets-eq b d at fits in
     let r = e ∙ ap (λ (l : List ℕ). placed l d at) (f .frame-bytes .ensures) in
@@ -41,8 +41,8 @@ push-data-spec =
     returns
     (λ c κs. search needs)
     (λ c. search needs)
-    (λ c. let s = c .before .before .before .before .before in omega (arith, next-below (s .args .self) (s .pre .0)))
+    (λ c. let s = c .before .before .before .before .before in omega (arith, next-below (s .args .queue) (s .pre .0)))
     (λ c κs. search needs)
-    (λ c. let s = c .before .before .before .before .before .before .before .before in omega (arith, next-below (s .args .self) (s .pre .0)))
+    (λ c. let s = c .before .before .before .before .before .before .before .before in omega (arith, next-below (s .args .queue) (s .pre .0)))
     (λ c. search needs)
     returns-2)
