@@ -11,7 +11,7 @@ use Rattle.choice.specs.Pick.{pick, pick-all, and-fst, and-snd, and-both}
 use Rattle.channel.specs.Access.{soundChannel}
 use Rattle.kiss_buffer.specs.declared.WriteAnswer.{WriteAnswer}
 use Rattle.kiss_buffer.specs.declared.WriteAnswer.the-variants.{Done, Full, WrongStore, OutOfBounds}
-use Rattle.kiss_buffer.specs.Reader.{STORE as READER, refused}
+use Rattle.kiss_reader.specs.Reader.{STORE as READER, refused}
 use Rattle.kiss_buffer.specs.Calls.{soundBuffer, written, writeNumber}
 use Rattle.kiss_buffer.specs.Promises.{Box as ReaderBox, afterWritten, Sound as ReaderSound}
 use Rattle.kiss_buffer.proofs.Boxes.{reading, write-answer}

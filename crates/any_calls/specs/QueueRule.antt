@@ -7,7 +7,7 @@ use mathlib.Core.List.{List, [], _∷_, _++_}
 use lib.ListN.{length}
 use Rattle.protocol.specs.declared.StreamFrame.{StreamFrame}
 use Rattle.channel.specs.Access.{newChannel}
-use Rattle.kiss_buffer.specs.Reader.{STORE as READER}
+use Rattle.kiss_reader.specs.Reader.{STORE as READER}
 use Rattle.packets.specs.Frames.{Packet, AirFrame, joined}
 use Rattle.packets.specs.Queue.{STORE as PACKETS}
 use Rattle.streams.specs.Queue.{STORE as STREAMS}

@@ -122,17 +122,17 @@ impl Host {
         let sending = self.sending;
         let waiting = sending.packets;
         if number == 0 {
-            let pushed = waiting.push_basic(frame, packets);
+            let pushed = packet_push::push_basic(waiting, frame, packets);
             let after = pushed.queue;
             return self.with_packets(after);
         }
         if number == 1 {
-            let pushed = waiting.push_full(frame, packets);
+            let pushed = packet_push::push_full(waiting, frame, packets);
             let after = pushed.queue;
             return self.with_packets(after);
         }
         let queue = sending.streams;
-        let pushed = queue.push(frame, streams);
+        let pushed = stream_push::push(queue, frame, streams);
         let after = pushed.queue;
         self.with_streams(after)
     }

@@ -16,12 +16,12 @@ use Rattle.kiss_buffer.specs.declared.WriteAnswer.the-variants.{Done, Fu
 use Rattle.kiss_buffer.specs.declared.Written.{Written}
 use Rattle.kiss_buffer.specs.declared.NextAnswer.the-variants.{Frame, Nothing}
 use Rattle.kiss_buffer.specs.declared.NextFrame.{NextFrame}
-use Rattle.kiss_buffer.specs.Meaning.{enclosed}
-use Rattle.kiss_buffer.specs.Reader.{Reader, newReader, STORE, flush, front, isSome, next, afterNext, refused, takes, afterWrite}
+use Rattle.kiss_reader.specs.Meaning.{enclosed}
+use Rattle.kiss_reader.specs.Reader.{Reader, newReader, STORE, flush, front, isSome, next, afterNext, refused, takes, afterWrite}
 use Rattle.kiss_buffer.specs.Calls.{readerOf, bufferOf, standsFirst, soundBuffer, notWritten, writes, written, nextAnswer, found, nextFrame, frameIn}
 use Rattle.kiss_buffer.specs.Promises.{Box, newBox, afterWritten, afterNextFrame, Sound}
-use Rattle.kiss_buffer.proofs.Settled.{Settled, bare, alone, fronted, settled}
-use Rattle.kiss_buffer.proofs.Steps.{length-settle, length-flush, length-write}
+use Rattle.kiss_reader.proofs.Settled.{Settled, bare, alone, fronted, settled}
+use Rattle.kiss_reader.proofs.Steps.{length-settle, length-flush, length-write}
 
 -- ---- a reader in a box: its bytes over the start of a store
 

@@ -19,11 +19,12 @@ use Rattle.kiss_buffer.specs.declared.WriteAnswer.the-variants.{Done, Fu
 use Rattle.kiss_buffer.specs.declared.Written.{Written}
 use Rattle.kiss_buffer.specs.declared.NextAnswer.the-variants.{Frame, Nothing, WrongStore as NoStore, OutOfBounds as NoState}
 use Rattle.kiss_buffer.specs.declared.NextFrame.{NextFrame}
-use Rattle.kiss_buffer.specs.Meaning.{enclosed}
-use Rattle.kiss_buffer.specs.Reader.{Reader, STORE, settle, flush, front, isSome, next, afterNext, isFull, refused, keptBack, takes, afterWrite}
+use Rattle.kiss_reader.specs.Meaning.{enclosed}
+use Rattle.kiss_reader.specs.Reader.{Reader, STORE, settle, flush, front, isSome, next, afterNext, isFull, refused, keptBack, takes, afterWrite}
 use Rattle.kiss_buffer.specs.Calls.{readerOf, bufferOf, standsFirst, soundBuffer, notWritten, writes, written, nextAnswer, notSought, found, nextFrame, orEmpty, frameIn}
-use Rattle.kiss_buffer.specs.Inside.{settleAt, compacted, accepted}
-use Rattle.kiss_buffer.proofs.Indices.{settle-at, settle-settle}
+use Rattle.kiss_buffer.specs.Inside.{compacted, accepted}
+use Rattle.kiss_reader.specs.Inside.{settleAt}
+use Rattle.kiss_reader.proofs.Indices.{settle-at, settle-settle}
 use Rattle.kiss_buffer.proofs.Inner.{front-part, front-within}
 
 -- ---- what a sound state says

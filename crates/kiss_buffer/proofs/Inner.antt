@@ -15,11 +15,11 @@ use Rattle.store.specs.Room.{over}
 use Rattle.kiss_escape.specs.Escape.{FEND}
 use Rattle.kiss_read.specs.Scan.{isFend, notFend, stretch, runOf}
 use Rattle.kiss_read.proofs.Scans.{run-within, stretch-found}
-use Rattle.kiss_buffer.specs.Meaning.{enclosed}
-use Rattle.kiss_buffer.specs.Reader.{settle, front, isSome}
+use Rattle.kiss_reader.specs.Meaning.{enclosed}
+use Rattle.kiss_reader.specs.Reader.{settle, front, isSome}
 use Rattle.kiss_buffer.specs.Calls.{standsFirst, orEmpty}
-use Rattle.kiss_buffer.specs.Inside.{settleAt}
-use Rattle.kiss_buffer.proofs.Indices.{settle-at, settle-within, front-found, front-none, stretch-tested}
+use Rattle.kiss_reader.specs.Inside.{settleAt}
+use Rattle.kiss_reader.proofs.Indices.{settle-at, settle-within, front-found, front-none, stretch-tested}
 
 -- a part that goes on to the end
 pub to-the-end : (i : ℕ) (h : List ℕ) → take (length h - i) (drop i h) ≡ drop i h

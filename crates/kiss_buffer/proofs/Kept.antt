@@ -14,18 +14,15 @@ use Rattle.kiss_buffer.specs.declared.WriteAnswer.the-variants.{Done, Fu
 use Rattle.kiss_buffer.specs.declared.Written.{Written}
 use Rattle.kiss_buffer.specs.declared.NextAnswer.the-variants.{WrongStore as WrongStore′, OutOfBounds as OutOfBounds′}
 use Rattle.kiss_buffer.specs.declared.NextFrame.{NextFrame}
-use Rattle.kiss_buffer.specs.Meaning.{kept, framesOf}
-use Rattle.kiss_buffer.specs.Reader.{STORE, next, refused}
+use Rattle.kiss_reader.specs.Meaning.{kept, framesOf}
+use Rattle.kiss_reader.specs.Reader.{STORE, next, refused}
 use Rattle.kiss_buffer.specs.Calls.{soundBuffer, notWritten, writes, written, nextAnswer, notSought, found, nextFrame, writeNumber, nextNumber}
-use Rattle.kiss_buffer.specs.Promises.{Box, afterWritten, afterNextFrame, FramesAreTheSplit, RunGivesItsFrames, RefusedKeepsAll, WriteTakesSome, DrainedIsNotRefused, TakingEnds, SoundStaysSound, EveryInputHasItsRun, AllAccepted, none-accepted, one-accepted, AllReadBack, none-read, one-read, Demand3}
-use Rattle.kiss_buffer.proofs.Frames.{built-frames}
-use Rattle.kiss_buffer.proofs.Split.{frames-split}
-use Rattle.kiss_buffer.proofs.Steps.{still-not-refused, takes-some}
+use Rattle.kiss_buffer.specs.Promises.{Box, afterWritten, afterNextFrame, RunGivesItsFrames, RefusedKeepsAll, WriteTakesSome, DrainedIsNotRefused, TakingEnds, SoundStaysSound, EveryInputHasItsRun, AllReadBack, none-read, one-read, Demand3}
+use Rattle.kiss_reader.specs.Promises.{AllAccepted, none-accepted, one-accepted}
+use Rattle.kiss_reader.proofs.Frames.{built-frames}
+use Rattle.kiss_reader.proofs.Steps.{still-not-refused, takes-some}
 use Rattle.kiss_buffer.proofs.Boxes.{reading, next-sound, write-answer, write-count, write-sound, done-says}
 use Rattle.kiss_buffer.proofs.Runs.{drain-still, run-frames, drain-exists, run-exists}
-
-pub frames-are-the-split : FramesAreTheSplit
-frames-are-the-split = frames-split
 
 pub run-gives-its-frames : RunGivesItsFrames
 run-gives-its-frames = run-frames

@@ -1,10 +1,5 @@
-pub mod Settled
-pub mod Indices
 pub mod Inner
 pub mod Cases
-pub mod Frames
-pub mod Split
-pub mod Steps
 pub mod Boxes
 pub mod Runs
 pub mod Kept

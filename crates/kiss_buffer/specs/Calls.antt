@@ -17,7 +17,7 @@ use Rattle.kiss_buffer.specs.declared.Written.{Written}
 use Rattle.kiss_buffer.specs.declared.NextAnswer.{NextAnswer}
 use Rattle.kiss_buffer.specs.declared.NextAnswer.the-variants.{Frame, Nothing, WrongStore as NoStore, OutOfBounds as NoState}
 use Rattle.kiss_buffer.specs.declared.NextFrame.{NextFrame}
-use Rattle.kiss_buffer.specs.Reader.{Reader, STORE, front, isSome, next, afterNext, refused, takes, afterWrite}
+use Rattle.kiss_reader.specs.Reader.{Reader, STORE, front, isSome, next, afterNext, refused, takes, afterWrite}
 
 -- the reader that a record and a store stand for, and the record of a reader
 abbrev pub readerOf : KissBuffer → List ℕ → Reader

@@ -1,17 +1,12 @@
--- What the reader's inner functions leave, by index. From no document: no promise rests on these. Assumes nothing.
+-- What the reader's inner functions leave. From no document: no promise rests on these. Assumes nothing.
 use Prim.Native.Nat.{ℕ, _+_, _-_, min}
 use mathlib.Core.Bool.{false}
 use mathlib.Core.List.{List, _++_}
 use lib.ListN.{length, take, drop}
 use Rattle.store.specs.Room.{over}
-use Rattle.kiss_read.specs.Scan.{isFend, notFend, runOf}
 use Rattle.kiss_buffer.specs.declared.WriteAnswer.the-variants.{Done}
 use Rattle.kiss_buffer.specs.declared.Written.{Written}
-use Rattle.kiss_buffer.specs.Reader.{STORE, settle}
-
--- where settled bytes begin: the last FEND of the first run
-abbrev pub settleAt : List ℕ → ℕ
-settleAt h = runOf notFend h + (runOf isFend (drop (runOf notFend h) h) - 1)
+use Rattle.kiss_reader.specs.Reader.{STORE, settle}
 
 -- how many bytes are held once those from `from` up to `filled` are settled, and the store then
 unfoldable pub compacted : ℕ → ℕ → List ℕ → ℕ × List ℕ

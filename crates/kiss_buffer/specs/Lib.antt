@@ -1,5 +1,3 @@
-pub mod Meaning
-pub mod Reader
 pub mod Calls
 pub mod Inside
 pub mod Promises

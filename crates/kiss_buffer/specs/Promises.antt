@@ -7,17 +7,14 @@ use mathlib.Core.List.{List, [], _∷_, _++_, map}
 use lib.ListN.{length, take, drop}
 use Rattle.kiss_escape.specs.Escape.{FEND}
 use Rattle.kiss_build.specs.Build.{Building, portOf, commandOf, contentOf, frameOf}
-use Rattle.kiss_build.specs.Promises.{Accepted, ReadsAs}
+use Rattle.kiss_build.specs.Promises.{ReadsAs}
 use Rattle.kiss_buffer.specs.declared.KissBuffer.{KissBuffer}
 use Rattle.kiss_buffer.specs.declared.WriteAnswer.the-variants.{Done}
 use Rattle.kiss_buffer.specs.declared.NextAnswer.the-variants.{Frame, Nothing}
-use Rattle.kiss_buffer.specs.Meaning.{framesOf, split, splitFrames}
-use Rattle.kiss_buffer.specs.Reader.{newReader, STORE}
+use Rattle.kiss_reader.specs.Meaning.{framesOf}
+use Rattle.kiss_reader.specs.Reader.{newReader, STORE}
+use Rattle.kiss_reader.specs.Promises.{joined, Folds, AllAccepted}
 use Rattle.kiss_buffer.specs.Calls.{bufferOf, soundBuffer, written, nextFrame, frameIn, writeNumber, nextNumber}
-
--- the reader's meaning is document 01's: split at each FEND, drop what precedes the first, keep the stretches of 1 to 1,711 bytes
-abbrev pub FramesAreTheSplit : Type 0
-FramesAreTheSplit = (w : List ℕ) → framesOf w ≡ splitFrames (split w)
 
 -- ---- runs
 
@@ -89,21 +86,6 @@ abbrev pub EveryInputHasItsRun : Type 0
 EveryInputHasItsRun = (store : List ℕ) → length store ≡ STORE → (w : List ℕ) → Run (newBox store) w (framesOf w)
 
 -- ---- demand 3
-
-abbrev pub joined : List (List ℕ) → List ℕ
-joined [] = []
-joined (f ∷ fs) = f ++ joined fs
-
--- v is u with neighbouring FENDs folded into one, at any places or none
-pub data Folds : List ℕ → List ℕ → Type 0 where
-  ends : Folds [] []
-  same : (b : ℕ) {u v : List ℕ} → Folds u v → Folds (b ∷ u) (b ∷ v)
-  fold : {u v : List ℕ} → Folds (FEND ∷ u) v → Folds (FEND ∷ FEND ∷ u) v
-
--- calls of the builders, each with arguments that it accepts
-pub data AllAccepted : List Building → Type 0 where
-  none-accepted : AllAccepted []
-  one-accepted : {b : Building} {bs : List Building} → Accepted b → AllAccepted bs → AllAccepted (b ∷ bs)
 
 -- each frame reads back as what it was built from
 pub data AllReadBack : List Building → Type 0 where

@@ -5,9 +5,10 @@ use kiss_read::to_fend;
 ghost use mathlib.Core.Path.{_≡_};
 ghost use Prim.Native.Nat.{_≤_};
 ghost use lib.ListN.{length, take};
-ghost use Rattle.kiss_buffer.specs.Reader.{newReader, STORE, settle, front, isSome};
+ghost use Rattle.kiss_reader.specs.Reader.{newReader, STORE, settle, front, isSome};
+ghost use Rattle.kiss_reader.specs.Inside.{settleAt};
 ghost use Rattle.kiss_buffer.specs.Calls.{bufferOf, standsFirst, soundBuffer, written, nextFrame, orEmpty, frameIn};
-ghost use Rattle.kiss_buffer.specs.Inside.{settleAt, compacted, accepted};
+ghost use Rattle.kiss_buffer.specs.Inside.{compacted, accepted};
 
 // Room for the longest frame that a builder writes: 2 * 855 bytes of content, a header and two FENDs.
 pub const MAX_FRAME_LEN: usize = 1713;

@@ -1,4 +1,4 @@
-// The reads of the packet queue, behind `packets`, which has the record, the pushes and the definitions: the packets that wait are cut into frames.
+// The reads of the packet queue, behind `packets`, which has the record and the definitions: the packets that wait are cut into frames.
 use packets::PacketQueue;
 use packets::PacketRead;
 use packets::ROOM_LEN;

@@ -17,7 +17,7 @@ use Rattle.kiss_escape.specs.Unescape.{unescaped}
 use Rattle.kiss_build.specs.declared.Built.{Built}
 use Rattle.kiss_build.specs.declared.Built.the-variants.{Frame, PayloadTooBig, LsfWrongSize, OutOfRange, NoRoom}
 use Rattle.kiss_build.specs.Build.{Building, txDelay, built}
-use Rattle.kiss_buffer.specs.Meaning.{framesOf}
+use Rattle.kiss_reader.specs.Meaning.{framesOf}
 use Rattle.packets.specs.Frames.{AirFrame, setup, piece, dataFrames}
 
 pub data Example : Type 0 where

@@ -1,4 +1,4 @@
-// The reads of the stream queue, behind `streams`, which has the record, the push and the definitions.
+// The reads of the stream queue, behind `streams`, which has the record and the definitions.
 use protocol::LsfFrame;
 use protocol::StreamFrame;
 use streams::FRAME_LEN;

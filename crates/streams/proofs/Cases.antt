@@ -12,7 +12,7 @@ use Rattle.crc.specs.Crc.{crcOf}
 use Rattle.kiss_read.specs.declared.Decoded.{Decoded}
 use Rattle.kiss_stream.specs.Stream.{streamOf}
 use Rattle.streams.specs.declared.StreamQueue.{StreamQueue}
-use Rattle.streams.specs.declared.StreamAnswer.the-variants.{Queued, LsfPending, Ignored, WrongStore, OutOfBounds}
+use Rattle.streams.specs.declared.StreamAnswer.the-variants.{Queued, LsfPending, Ignored}
 use Rattle.streams.specs.declared.StreamReadAnswer.the-variants.{Nothing, WrongStore as NoStore, OutOfBounds as NoState}
 use Rattle.streams.specs.Layout.{FRAME, bytesOf}
 use Rattle.streams.specs.Queue.{PLACES, LSF, STORE, IGNORED, DATA, soundQueue, emptyQueue, queued, withPending, notPushed, dataPushed, lsfPushed, payloadPushed, decodedPushed, decodedOf, pushed, notRead, lsfRead, frameRead, nextRead, readNext}
@@ -30,14 +30,6 @@ curr-below q e = ltb-true (q .curr) PLACES (and-fst _ _ (and-snd _ _ e))
 -- ---- push
 
 module _ (q : StreamQueue) (frame store : List ℕ) where
-  pub pushed-wrong : (length store ≡ STORE → ⊥) → notPushed WrongStore q store ≡ pushed q frame store
-  unfolding pushed pick
-  pushed-wrong f = rw (ne-eqb (length store) STORE f)
-
-  pub pushed-unsound : length store ≡ STORE → soundQueue q ≡ false → notPushed OutOfBounds q store ≡ pushed q frame store
-  unfolding pushed pick
-  pushed-unsound l e = rw (eq-eqb (length store) STORE l, e)
-
   -- past the tests, once the frame is decoded
   pub pushed-decoded : length store ≡ STORE → soundQueue q ≡ true → {r : Decoded} (payload : List ℕ) → (r, payload) ≡ decodedOf frame → (d : Decoded) → r ≡ d
       → decodedPushed d q payload store ≡ pushed q frame store
@@ -55,10 +47,6 @@ module _ (q : StreamQueue) (payload store : List ℕ) where
   pub data-roomy : q .full ≡ false → (record { answer = Queued; queue = queued q }, placed (bytesOf (streamOf payload)) store (FRAME * q .next)) ≡ dataPushed q payload store
   unfolding dataPushed pick
   data-roomy t = rw t
-
-  pub lsf-wrong : {n : ℕ} → n ≡ crcOf payload → (n ≡ 0 → ⊥) → notPushed Ignored q store ≡ lsfPushed q payload store
-  unfolding lsfPushed pick
-  lsf-wrong e f = rw (ne-eqb (crcOf payload) 0 (λ z. f (e ∙ z)))
 
   pub lsf-right : {n : ℕ} → n ≡ crcOf payload → n ≡ 0 → (record { answer = LsfPending; queue = withPending true q }, placed payload store LSF) ≡ lsfPushed q payload store
   unfolding lsfPushed pick

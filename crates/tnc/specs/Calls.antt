@@ -8,7 +8,7 @@ use Rattle.choice.specs.Pick.{pick, and}
 use Rattle.channel.specs.declared.Channel.{Channel}
 use Rattle.kiss_buffer.specs.declared.WriteAnswer.{WriteAnswer}
 use Rattle.kiss_buffer.specs.declared.WriteAnswer.the-variants.{WrongStore as NoRoom, OutOfBounds as NoState}
-use Rattle.kiss_buffer.specs.Reader.{STORE as READER}
+use Rattle.kiss_reader.specs.Reader.{STORE as READER}
 use Rattle.outgoing.specs.declared.HostAnswer.{HostAnswer}
 use Rattle.outgoing.specs.declared.HostAnswer.the-variants.{WrongStore as NoMessageStore, OutOfBounds as NoMessageState}
 use Rattle.outgoing.specs.declared.HostRead.{HostRead}

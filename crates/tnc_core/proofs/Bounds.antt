@@ -4,7 +4,7 @@ use mathlib.Core.Bool.{Bool, true, false, not, false≢true}
 use mathlib.Core.Path.{_≡_, refl, sym}
 use borrow.Author.Tests.{le-leb, leb-true}
 use Rattle.choice.specs.Pick.{pick, and-fst, and-snd, and-both}
-use Rattle.kiss_buffer.specs.Reader.{STORE as READER}
+use Rattle.kiss_reader.specs.Reader.{STORE as READER}
 use Rattle.sending.specs.Sending.{soundSending}
 use Rattle.state.specs.State.{transmits}
 use Rattle.radio.specs.Radio.{soundRadio}

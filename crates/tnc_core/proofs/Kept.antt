@@ -12,7 +12,7 @@ use Rattle.channel.specs.declared.ChannelAnswer.the-variants.{Done, OutOfRange,
 use Rattle.channel.specs.Access.{soundChannel, clockSet, setNumber}
 use Rattle.channel.proofs.Kept as channels
 use Rattle.channel.proofs.Bounds.{clock-bound}
-use Rattle.kiss_buffer.specs.Reader.{STORE as READER}
+use Rattle.kiss_reader.specs.Reader.{STORE as READER}
 use Rattle.outgoing.specs.Message.{soundMessage}
 use Rattle.sending.specs.Sending.{newSending, soundSending}
 use Rattle.packets.proofs.Kept as packets

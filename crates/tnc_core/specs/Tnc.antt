@@ -8,7 +8,7 @@ use Rattle.channel.specs.declared.ChannelAnswer.{ChannelAnswer}
 use Rattle.channel.specs.declared.ChannelAnswer.the-variants.{Done, OutOfRange, OutOfBounds as NotSet}
 use Rattle.channel.specs.declared.ChannelSet.{ChannelSet}
 use Rattle.channel.specs.Access.{soundChannel, clockSet}
-use Rattle.kiss_buffer.specs.Reader.{STORE as READER, newReader}
+use Rattle.kiss_reader.specs.Reader.{STORE as READER, newReader}
 use Rattle.kiss_buffer.specs.Calls.{bufferOf}
 use Rattle.outgoing.specs.Message.{noMessage}
 use Rattle.sending.specs.Sending.{newSending, soundSending}

@@ -10,7 +10,7 @@ use Rattle.kiss_buffer.specs.declared.KissBuffer.{KissBuffer}
 use Rattle.kiss_buffer.specs.declared.WriteAnswer.{WriteAnswer}
 use Rattle.kiss_buffer.specs.declared.WriteAnswer.the-variants.{WrongStore, OutOfBounds}
 use Rattle.kiss_buffer.specs.declared.Written.{Written}
-use Rattle.kiss_buffer.specs.Reader.{STORE as READER}
+use Rattle.kiss_reader.specs.Reader.{STORE as READER}
 use Rattle.kiss_buffer.specs.Calls.{written}
 use Rattle.packets.specs.Queue.{STORE as PACKETS}
 use Rattle.streams.specs.Queue.{STORE as STREAMS}

@@ -5,11 +5,11 @@ use mathlib.Core.Path.{_≡_, refl, sym, ap, _∙_, subst}
 use mathlib.Core.Option.{Option, none, some}
 use mathlib.Core.List.{List, [], _∷_, _++_, append-nil}
 use lib.ListN.{length}
-use Rattle.kiss_buffer.specs.Meaning.{framesOf}
-use Rattle.kiss_buffer.specs.Reader.{Reader, flush, isSome, next, afterNext}
+use Rattle.kiss_reader.specs.Meaning.{framesOf}
+use Rattle.kiss_reader.specs.Reader.{Reader, flush, isSome, next, afterNext}
 use Rattle.kiss_buffer.specs.Calls.{frameIn}
 use Rattle.kiss_buffer.specs.Promises.{Box as ReaderBox, afterNextFrame, Drain, none-left, handed-out, Sound}
-use Rattle.kiss_buffer.proofs.Steps.{next-frames, search-frames, still-after, still-ends, next-shorter}
+use Rattle.kiss_reader.proofs.Steps.{next-frames, search-frames, still-after, still-ends, next-shorter}
 use Rattle.kiss_buffer.proofs.Boxes.{reading, held-short, next-answer, next-reads, none-answered, some-answered, next-sound, next-frame}
 use Rattle.host_frame.specs.Promises.{Box as HostBox, after}
 use Rattle.tnc_host.specs.declared.Drained.{Drained}

@@ -11,12 +11,12 @@ use Rattle.choice.specs.Pick.{pick, pick-all}
 use Rattle.kiss_buffer.specs.declared.WriteAnswer.{WriteAnswer}
 use Rattle.kiss_buffer.specs.declared.WriteAnswer.the-variants.{Done, Full, WrongStore, OutOfBounds}
 use Rattle.kiss_buffer.specs.declared.Written.{Written}
-use Rattle.kiss_buffer.specs.Meaning.{framesOf}
-use Rattle.kiss_buffer.specs.Reader.{STORE as READER, flush, refused as refusedBy}
+use Rattle.kiss_reader.specs.Meaning.{framesOf}
+use Rattle.kiss_reader.specs.Reader.{STORE as READER, flush, refused as refusedBy}
 use Rattle.kiss_buffer.specs.Calls.{soundBuffer, writes, written, writeNumber, readerOf}
 use Rattle.kiss_buffer.specs.Promises.{Box as ReaderBox, afterWritten, afterNextFrame, Drain, none-left, handed-out, Run, over as all-read, write as one-read, Sound as ReaderSound}
 use Rattle.kiss_buffer.proofs.Kept as reader
-use Rattle.kiss_buffer.proofs.Steps.{Still, still-flush, still-ends}
+use Rattle.kiss_reader.proofs.Steps.{Still, still-flush, still-ends}
 use Rattle.kiss_buffer.proofs.Boxes.{reading, new-sound, done-says, write-sound, next-answer, none-answered, some-answered}
 use Rattle.kiss_buffer.proofs.Runs.{drain-exists, drain-still, run-frames}
 use Rattle.packets.specs.Queue.{STORE as PACKETS}

@@ -8,8 +8,8 @@ use Rattle.kiss_buffer.specs.declared.KissBuffer.{KissBuffer}
 use Rattle.kiss_buffer.specs.declared.WriteAnswer.{WriteAnswer}
 use Rattle.kiss_buffer.specs.declared.WriteAnswer.the-variants.{Done, Full, WrongStore, OutOfBounds}
 use Rattle.kiss_buffer.specs.declared.Written.{Written}
-use Rattle.kiss_buffer.specs.Meaning.{framesOf}
-use Rattle.kiss_buffer.specs.Reader.{STORE as READER, flush}
+use Rattle.kiss_reader.specs.Meaning.{framesOf}
+use Rattle.kiss_reader.specs.Reader.{STORE as READER, flush}
 use Rattle.kiss_buffer.specs.Calls.{readerOf, written}
 use Rattle.kiss_buffer.specs.Promises.{Box as ReaderBox, afterNextFrame}
 use Rattle.packets.specs.Queue.{STORE as PACKETS}

@@ -7,9 +7,9 @@ use native.Mathlib.Omega.{arith}
 use borrow.Author.Needs.{needs}
 use lib.Dec.{eqb}
 use lib.ListN.{length, drop}
-use Rattle.kiss_buffer.specs.Reader.{settle, front, isSome}
+use Rattle.kiss_reader.specs.Reader.{settle, front, isSome}
 use Rattle.kiss_buffer.specs.Calls.{orEmpty}
-use Rattle.kiss_buffer.proofs.Indices.{settle-at, settle-within}
+use Rattle.kiss_reader.proofs.Indices.{settle-at, settle-within}
 use Rattle.kiss_buffer.proofs.Inner.{to-the-end, front-some}
 use Rattle.kiss_buffer.proofs.holds_frame.Statement.{statement}
 use Rattle.kiss_buffer.proofs.holds_frame.Tie as tie

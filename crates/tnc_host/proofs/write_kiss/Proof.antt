@@ -9,7 +9,7 @@ use Rattle.choice.specs.Pick.{not-yes, not-no}
 use Rattle.kiss_buffer.specs.declared.WriteAnswer.{WriteAnswer}
 use Rattle.kiss_buffer.specs.declared.WriteAnswer.the-variants.{Done, Full, WrongStore, OutOfBounds}
 use Rattle.kiss_buffer.specs.declared.Written.{Written}
-use Rattle.kiss_buffer.specs.Reader.{STORE as READER}
+use Rattle.kiss_reader.specs.Reader.{STORE as READER}
 use Rattle.kiss_buffer.specs.Promises.{Sound}
 use Rattle.kiss_buffer.proofs.Boxes.{write-sound, done-says}
 use Rattle.packets.specs.Queue.{STORE as PACKETS}

@@ -10,7 +10,7 @@ use mir.Val.{boolByte}
 use lib.ListN.{length}
 use lib.Seq.{length-take-le}
 use Rattle.kiss_buffer.specs.declared.NextAnswer.the-variants.{Frame, Nothing}
-use Rattle.kiss_buffer.specs.Reader.{STORE, front}
+use Rattle.kiss_reader.specs.Reader.{STORE, front}
 use Rattle.kiss_buffer.specs.Calls.{readerOf, soundBuffer, orEmpty}
 use Rattle.kiss_buffer.proofs.Cases.{sound-filled, sound-some, next-wrong, next-unsound, next-sound, heldFrom, compacted-count, compacted-left, compacted-within, compacted-held, settle-flush, found-none, found-some}
 use Rattle.kiss_buffer.proofs.KissBuffer.next_frame.Statement.{statement}

@@ -5,7 +5,7 @@ use native.Mathlib.Omega.{arith}
 use borrow.Author.Needs.{needs}
 use borrow.Author.Tests.{not-true, not-false}
 use lib.ListN.{length}
-use Rattle.kiss_buffer.specs.Reader.{STORE}
+use Rattle.kiss_reader.specs.Reader.{STORE}
 use Rattle.kiss_buffer.specs.Calls.{soundBuffer}
 use Rattle.kiss_buffer.proofs.Cases.{sound-filled, sound-taken, compacted-within, written-wrong, written-unsound, written-taken, written-roomy, written-full, written-afresh}
 use Rattle.kiss_buffer.proofs.KissBuffer.write.Statement.{statement}

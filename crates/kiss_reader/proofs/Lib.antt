@@ -1,0 +1,6 @@
+pub mod Settled
+pub mod Indices
+pub mod Frames
+pub mod Split
+pub mod Steps
+pub mod Kept

@@ -1,0 +1,4 @@
+pub mod Meaning
+pub mod Reader
+pub mod Inside
+pub mod Promises

@@ -1,0 +1,209 @@
+// The TNC for hosts in C and Rust: one function that applies an event to it, over a record without enums. `rt staticlib tnc_link` writes the archive.
+use channel::Channel;
+use event_call::Applied;
+use event_call::EventBox;
+use kiss_buffer::KissBuffer;
+use outgoing::Outgoing;
+use radio::Radio;
+use sending::Sending;
+use state::State;
+use tnc_core::Tnc;
+ghost use mathlib.Core.Path.{_≡_};
+ghost use lib.Dec.{leb, eqb};
+ghost use Rattle.choice.specs.Pick.{and};
+ghost use Rattle.tnc_link.specs.Saved.{newSaved, stateKind, stateValue, validState, stateOf, savedOf, restored, refusal, told, savedTurn, eventOn};
+
+// The TNC and its channel. A state is its kind, 0 to 8 in the order of `state::State`, and its number, 0 where it has none.
+#[repr(C)]
+pub struct Saved {
+    pub buffer: KissBuffer,
+    pub sending: Sending,
+    pub state: u8,
+    pub value: u64,
+    pub outgoing: Outgoing,
+    pub ptt: bool,
+    pub channel: Channel,
+}
+
+#[repr(C)]
+pub struct EventAnswer {
+    pub number: u8,
+    // How many of the room's bytes the event prints.
+    pub count: usize,
+    pub ptt: bool,
+    pub saved: Saved,
+}
+
+#[no_mangle]
+pub extern "C" fn iflazrud_tnc_new() -> Saved
+    ensures { λ r. ⌜ r ≡ newSaved ⌝ }
+{
+    save(EventBox {
+        tnc: Tnc::new(),
+        channel: Channel::new(),
+    })
+}
+
+// One event of document 01's event program: its kind and its body.
+#[no_mangle]
+pub extern "C" fn iflazrud_tnc_event(
+    saved: Saved,
+    kind: u8,
+    body: &[u8],
+    reader: &mut [u8],
+    packets: &mut [u8],
+    streams: &mut [u8],
+    rx: &mut [u8],
+    message: &mut [u8],
+    bytes: &mut [u8],
+) -> EventAnswer
+    ensures { λ r. ⌜ savedTurn r (now (reader .exit)) (now (packets .exit)) (now (streams .exit)) (now (rx .exit)) (now (message .exit)) (now (bytes .exit)) ≡ eventOn saved kind (now (body .entry)) (now (reader .entry)) (now (packets .entry)) (now (streams .entry)) (now (rx .entry)) (now (message .entry)) (now (bytes .entry)) ⌝ }
+{
+    let state = saved.state;
+    let value = saved.value;
+    if !is_state(state, value) {
+        return EventAnswer {
+            number: 8,
+            count: 0,
+            ptt: false,
+            saved: saved,
+        };
+    }
+    let applied = event_step::apply(
+        restore(saved),
+        kind,
+        body,
+        reader,
+        packets,
+        streams,
+        rx,
+        message,
+        bytes,
+    );
+    tell(applied)
+}
+
+fn tell(applied: Applied) -> EventAnswer
+    ensures { λ r. ⌜ r ≡ told applied ⌝ }
+{
+    let after = applied.after;
+    EventAnswer {
+        number: applied.number,
+        count: applied.count,
+        ptt: applied.ptt,
+        saved: save(after),
+    }
+}
+
+fn save(before: EventBox) -> Saved
+    ensures { λ r. ⌜ r ≡ savedOf before ⌝ }
+{
+    let tnc = before.tnc;
+    let channel = before.channel;
+    let buffer = tnc.buffer;
+    let sending = tnc.sending;
+    let radio = tnc.radio;
+    let state = radio.state;
+    let outgoing = radio.outgoing;
+    Saved {
+        buffer: buffer,
+        sending: sending,
+        state: kind_of(state),
+        value: value_of(state),
+        outgoing: outgoing,
+        ptt: tnc.ptt,
+        channel: channel,
+    }
+}
+
+fn kind_of(state: State) -> u8
+    ensures { λ r. ⌜ r ≡ stateKind state ⌝ }
+{
+    match state {
+        State::Idle => 0,
+        State::RxAcquiringStream(_) => 1,
+        State::RxStream(_) => 2,
+        State::RxPacket(_) => 3,
+        State::TxStream => 4,
+        State::TxStreamSentEndOfStream => 5,
+        State::TxPacket => 6,
+        State::TxEnding => 7,
+        State::TxEndingAtTime(_) => 8,
+    }
+}
+
+fn value_of(state: State) -> u64
+    ensures { λ r. ⌜ r ≡ stateValue state ⌝ }
+{
+    match state {
+        State::Idle => 0,
+        State::RxAcquiringStream(mask) => mask as u64,
+        State::RxStream(expected) => expected as u64,
+        State::RxPacket(count) => count as u64,
+        State::TxStream => 0,
+        State::TxStreamSentEndOfStream => 0,
+        State::TxPacket => 0,
+        State::TxEnding => 0,
+        State::TxEndingAtTime(end) => end,
+    }
+}
+
+// The state's kind is one of nine and its number one of that kind's.
+fn is_state(kind: u8, value: u64) -> bool
+    ensures { λ r. ⌜ r ≡ validState kind value ⌝ }
+{
+    match kind {
+        1 => value <= 255,
+        2 => value <= 65535,
+        3 => true,
+        8 => true,
+        _ => plain_state(kind, value),
+    }
+}
+
+fn plain_state(kind: u8, value: u64) -> bool
+    ensures { λ r. ⌜ r ≡ and (leb kind 8) (eqb value 0) ⌝ }
+{
+    if 8 < kind {
+        return false;
+    }
+    value == 0
+}
+
+fn restore(saved: Saved) -> EventBox
+    ensures { λ r. ⌜ r ≡ restored saved ⌝ }
+{
+    let buffer = saved.buffer;
+    let sending = saved.sending;
+    let outgoing = saved.outgoing;
+    let channel = saved.channel;
+    let state = state_of(saved.state, saved.value);
+    EventBox {
+        tnc: Tnc {
+            buffer: buffer,
+            sending: sending,
+            radio: Radio {
+                state: state,
+                outgoing: outgoing,
+            },
+            ptt: saved.ptt,
+        },
+        channel: channel,
+    }
+}
+
+fn state_of(kind: u8, value: u64) -> State
+    ensures { λ r. ⌜ r ≡ stateOf kind value ⌝ }
+{
+    match kind {
+        1 => State::RxAcquiringStream((value % 256) as u8),
+        2 => State::RxStream((value % 65536) as u16),
+        3 => State::RxPacket(value as usize),
+        4 => State::TxStream,
+        5 => State::TxStreamSentEndOfStream,
+        6 => State::TxPacket,
+        7 => State::TxEnding,
+        8 => State::TxEndingAtTime(value),
+        _ => State::Idle,
+    }
+}
