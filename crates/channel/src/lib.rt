@@ -3,6 +3,7 @@ ghost use mathlib.Core.Bool.{true};
 ghost use mathlib.Core.Path.{_≡_};
 ghost use Rattle.channel.specs.Access.{newChannel, soundChannel, clockSet, carrierSet, duplexSet, checkLater, checkDue, accessed};
 
+#[repr(C)]
 pub struct Channel {
     // Now, counted in samples.
     pub clock: u64,

@@ -13,6 +13,7 @@ ghost use Rattle.kiss_buffer.specs.Inside.{compacted, accepted};
 // Room for the longest frame that a builder writes: 2 * 855 bytes of content, a header and two FENDs.
 pub const MAX_FRAME_LEN: usize = 1713;
 
+#[repr(C)]
 pub struct KissBuffer {
     // How many bytes of the store count.
     pub filled: usize,

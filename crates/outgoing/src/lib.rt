@@ -3,6 +3,7 @@ ghost use mathlib.Core.Path.{_≡_};
 ghost use Rattle.outgoing.specs.Message.{noMessage, soundMessage, readUpTo, hostRead};
 
 // How long the message is, and how much of it has been read. No message: both are 0.
+#[repr(C)]
 pub struct Outgoing {
     pub len: usize,
     pub read: usize,

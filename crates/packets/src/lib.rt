@@ -13,6 +13,7 @@ pub const ROOM_LEN: usize = 855;
 
 pub const STORE_LEN: usize = 3420;
 
+#[repr(C)]
 pub struct Place {
     // Its LSF is still to be sent.
     pub due: bool,
@@ -20,6 +21,7 @@ pub struct Place {
     pub sent: usize,
 }
 
+#[repr(C)]
 pub struct PacketQueue {
     pub places: [Place; 4],
     // The place that the next packet goes into.

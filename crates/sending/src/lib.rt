@@ -4,6 +4,7 @@ use streams::StreamQueue;
 ghost use mathlib.Core.Path.{_≡_};
 ghost use Rattle.sending.specs.Sending.{newSending, soundSending, wantsToSend};
 
+#[repr(C)]
 pub struct Sending {
     pub packets: PacketQueue,
     pub streams: StreamQueue,

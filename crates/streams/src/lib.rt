@@ -15,6 +15,7 @@ pub const FRAME_LEN: usize = 25;
 // Where the LSF that waits stands.
 pub const LSF_AT: usize = 200;
 
+#[repr(C)]
 pub struct StreamQueue {
     // The place that the next frame is put into, and that of the first one that waits. Equal places are an empty queue, or a full one.
     pub next: usize,

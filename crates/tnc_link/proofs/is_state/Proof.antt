@@ -1,34 +1,29 @@
+-- `tnc_link::is_state` meets its contract. Assumes nothing.
 use borrow.Author.Needs.{needs}
+use Rattle.choice.specs.Pick.{pick, tests}
+use Rattle.tnc_link.specs.Saved.{validState}
 use Rattle.tnc_link.proofs.is_state.Statement.{statement}
 use Rattle.tnc_link.proofs.is_state.Tie as tie
-use Rattle.tnc_link.proofs.is_state.Reads as reads
-use Rattle.tnc_link.proofs.is_state.Lts as lts
-use Rattle.tnc_link.proofs.plain_state.Reads as plain-state-reads
 
--- src/lib.rt:160:14
-plain-state-requires : tie.Need-plain-state-requires
-plain-state-requires c κs = search needs
-
--- src/lib.rt:152:1
 returns : tie.Need-returns
-returns c = ?
+unfolding validState pick
+returns c = rw (c .match .keys1)
 
--- src/lib.rt:152:1
 returns-2 : tie.Need-returns-2
-returns-2 c = ?
+unfolding validState pick
+returns-2 c = rw (c .match .keys2)
 
--- src/lib.rt:152:1
 returns-3 : tie.Need-returns-3
-returns-3 c = ?
+unfolding validState pick
+returns-3 c = rw (c .match .keys3)
 
--- src/lib.rt:152:1
 returns-4 : tie.Need-returns-4
-returns-4 c = ?
+unfolding validState pick
+returns-4 c = rw (c .match .keys4)
 
--- src/lib.rt:152:1
 returns-5 : tie.Need-returns-5
-returns-5 c = ?
+unfolding validState
+returns-5 c = search (tests, c .plain-state .ensures) depth 14
 
 pub is-state-spec : {M : Type 1} → statement M
-is-state-spec =
-    tie.close (tie.spec plain-state-requires returns returns-2 returns-3 returns-4 returns-5)
+is-state-spec = tie.close (tie.spec (λ c κs. search needs) returns returns-2 returns-3 returns-4 returns-5)

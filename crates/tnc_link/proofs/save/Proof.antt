@@ -1,22 +1,20 @@
+-- `tnc_link::save` meets its contract. Assumes nothing.
 use borrow.Author.Needs.{needs}
 use Rattle.tnc_link.proofs.save.Statement.{statement}
 use Rattle.tnc_link.proofs.save.Tie as tie
-use Rattle.tnc_link.proofs.save.Reads as reads
-use Rattle.tnc_link.proofs.save.Lts as lts
-use Rattle.tnc_link.proofs.kind_of.Reads as kind-of-reads
-use Rattle.tnc_link.proofs.value_of.Reads as value-of-reads
 
--- src/lib.rt:111:16
-kind-of-requires : tie.Need-kind-of-requires
-kind-of-requires c κs = search needs
-
--- src/lib.rt:112:16
-value-of-requires : tie.Need-value-of-requires
-value-of-requires c κs = search needs
-
--- src/lib.rt:98:1
 returns : tie.Need-returns
-returns c = ?
+returns c =
+    let b = c .before .before .before .before .before .before .before .before .args .before in
+    λ i. record {
+      buffer = b .tnc .buffer;
+      sending = b .tnc .sending;
+      state = c .before .kind-of .ensures i;
+      value = c .value-of .ensures i;
+      outgoing = b .tnc .radio .outgoing;
+      ptt = b .tnc .ptt;
+      channel = b .channel;
+    }
 
 pub save-spec : {M : Type 1} → statement M
-save-spec = tie.close (tie.spec kind-of-requires value-of-requires returns)
+save-spec = tie.close (tie.spec (λ c κs. search needs) (λ c κs. search needs) returns)

@@ -1,65 +1,46 @@
+-- `tnc_link::state_of` meets its contract. Assumes nothing.
 use borrow.Author.Needs.{needs}
+use Rattle.choice.specs.Pick.{pick, tests}
+use Rattle.tnc_link.specs.Saved.{stateOf}
 use Rattle.tnc_link.proofs.state_of.Statement.{statement}
 use Rattle.tnc_link.proofs.state_of.Tie as tie
-use Rattle.tnc_link.proofs.state_of.Reads as reads
-use Rattle.tnc_link.proofs.state_of.Lts as lts
 
--- src/lib.rt:199:39
-cast-t5 : tie.Need-cast-t5
-cast-t5 c = search needs
-
--- src/lib.rt:200:30
-cast-t7 : tie.Need-cast-t7
-cast-t7 c = search needs
-
--- src/lib.rt:195:1
 returns : tie.Need-returns
-returns c = ?
+unfolding stateOf pick
+returns c = rw (c .match .keys1)
 
--- src/lib.rt:195:1
 returns-2 : tie.Need-returns-2
-returns-2 c = ?
+unfolding stateOf pick
+returns-2 c = rw (c .match .keys2)
 
--- src/lib.rt:195:1
 returns-3 : tie.Need-returns-3
-returns-3 c = ?
+unfolding stateOf pick
+returns-3 c = rw (c .match .keys3)
 
--- src/lib.rt:195:1
 returns-4 : tie.Need-returns-4
-returns-4 c = ?
+unfolding stateOf pick
+returns-4 c = rw (c .match .keys4)
 
--- src/lib.rt:195:1
 returns-5 : tie.Need-returns-5
-returns-5 c = ?
+unfolding stateOf pick
+returns-5 c = rw (c .match .keys5)
 
--- src/lib.rt:195:1
 returns-6 : tie.Need-returns-6
-returns-6 c = ?
+unfolding stateOf pick
+returns-6 c = rw (c .match .keys6)
 
--- src/lib.rt:195:1
 returns-7 : tie.Need-returns-7
-returns-7 c = ?
+unfolding stateOf pick
+returns-7 c = rw (c .match .keys7)
 
--- src/lib.rt:195:1
 returns-8 : tie.Need-returns-8
-returns-8 c = ?
+unfolding stateOf pick
+returns-8 c = rw (c .match .keys8)
 
--- src/lib.rt:195:1
 returns-9 : tie.Need-returns-9
-returns-9 c = ?
+unfolding stateOf
+returns-9 c = search tests depth 14
 
 pub state-of-spec : {M : Type 1} → statement M
 state-of-spec =
-    tie.close
-    (tie.spec
-    cast-t5
-    cast-t7
-    returns
-    returns-2
-    returns-3
-    returns-4
-    returns-5
-    returns-6
-    returns-7
-    returns-8
-    returns-9)
+    tie.close (tie.spec (λ c. search needs) (λ c. search needs) returns returns-2 returns-3 returns-4 returns-5 returns-6 returns-7 returns-8 returns-9)
