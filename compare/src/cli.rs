@@ -4,6 +4,7 @@ use crate::functions::{hex, Probe, Sink, NAMES};
 use crate::generate::{fixed, random, Reached, Stream};
 use crate::rng::Rng;
 use std::io::{Read, Write};
+use std::panic::{catch_unwind, AssertUnwindSafe};
 use std::process::Stdio;
 use std::time::Instant;
 
@@ -88,8 +89,11 @@ fn compare_functions(path: &str, seed: u64) -> u64 {
     let start = Instant::now();
     let mut probe = Probe::start(path);
     let mut sink = Sink::new(Some(&mut probe));
-    crate::functions::all(&mut Rng::new(seed), &mut sink);
-    let (calls, outside, wrong) = (sink.calls, sink.outside, sink.differences);
+    let panics = catch_unwind(AssertUnwindSafe(|| crate::functions::all(&mut Rng::new(seed), &mut sink))).is_err();
+    if panics {
+        println!("UNFORESEEN: the Rust panics in a function");
+    }
+    let (calls, outside, wrong) = (sink.calls, sink.outside, sink.differences + panics as u64);
     probe.end();
     println!("functions: calls compared with the Rust; calls outside the domain, compared with document 01");
     let mut sums = (0, 0);
@@ -270,4 +274,10 @@ fn record(folder: &str, seed: u64) {
     let all = |f: fn(&crate::functions::Case) -> &[u8]| -> Vec<u8> { sink.kept.iter().flat_map(|c| f(c).iter().copied()).collect() };
     write("probe/stdin", &all(|c| &c.request));
     write("probe/stdout", &all(|c| &c.answer));
+    let mut rng = Rng::new(seed);
+    let tour = crate::generate::tour(&mut rng, &mut Reached::default());
+    assert!(tour.end.is_none() && tour.unforeseen.is_none(), "the recorded stream leaves the domain");
+    let text: String = tour.lines.iter().map(|l| format!("{l}\n")).collect();
+    write("replay/stdin", &tour.bytes);
+    write("replay/stdout", text.as_bytes());
 }

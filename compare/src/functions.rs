@@ -7,7 +7,7 @@ use crate::rng::Rng;
 use std::io::{Read, Write};
 use std::process::{Child, Command, Stdio};
 
-pub const NAMES: [(u8, &str); 31] = [
+pub const NAMES: [(u8, &str); 32] = [
     (1, "new_basic_packet"),
     (2, "new_full_packet"),
     (3, "new_stream_setup"),
@@ -21,6 +21,7 @@ pub const NAMES: [(u8, &str); 31] = [
     (11, "decode_payload"),
     (12, "escape"),
     (13, "unescape"),
+    (14, "escaped_len (escape's count)"),
     (16, "LsfFrame::check_crc"),
     (17, "LsfFrame::mode"),
     (18, "LsfFrame::data_type"),
@@ -125,9 +126,9 @@ impl<'a> Sink<'a> {
                 self.differences += 1;
                 if self.differences <= 5 {
                     println!(
-                        "DIFFERENCE in {} ({} the domain)\n  request {}\n  the Rust {}\n  ours     {}",
+                        "DIFFERENCE in {} ({} the domain)\n  request {}\n  expected {}\n  ours     {}",
                         name(case.kind),
-                        if case.inside { "inside" } else { "outside, against document 01:" },
+                        if case.inside { "inside" } else { "outside" },
                         hex(&case.request),
                         hex(&case.answer[..case.care]),
                         hex(ours)
@@ -543,6 +544,8 @@ fn escape_one(rng: &mut Rng, sink: &mut Sink, a: &[u8]) {
     let n = room_around(rng, len);
     let asked = Asked { kind: 12, from: rng.byte(), a: a.to_vec(), b: vec![] };
     let mut room = counted_up(asked.from, n);
+    let whole = inside_escape(a, &mut vec![0; 2 * a.len()]);
+    sink.put(Asked { kind: 14, from: 0, a: a.to_vec(), b: vec![] }.answered(0, whole, vec![], true));
     if n < len {
         return sink.put(asked.answered(7, 0, room, false));
     }

@@ -867,3 +867,208 @@ pub fn fixed(rng: &mut Rng, reached: &mut Reached) -> Vec<Stream> {
     }
     out
 }
+
+// One stream inside the domain that meets each rule of the TNC, for the record.
+pub fn tour(rng: &mut Rng, reached: &mut Reached) -> Stream {
+    let mut m = Maker::new(rng, reached, [true; ROWS.len()]);
+    let mut lsf = LsfFrame([0x5A; 30]);
+    lsf.set_mode(Mode::Stream);
+    let mut packet_lsf = LsfFrame([0xC0; 30]);
+    packet_lsf.set_mode(Mode::Packet);
+    let ends = |m: &mut Maker| {
+        // The end is read, PTT stays until the clock reaches its time.
+        m.read();
+        m.read();
+        m.end_time(960);
+        let t = m.tnc.clock() + 960;
+        m.clock(t - 1);
+        m.clock(t);
+        m.read();
+    };
+
+    // Document 01's example, and the packet of no bytes to its end.
+    m.host_now(&[0xC0, 0x01, 0x0A, 0xC0, 0x00, 0xC0]);
+    m.read();
+    m.read();
+    m.read();
+    ends(&mut m);
+
+    // Two packets in one transmission, glued, with escapes, one of them with an escape that means nothing; a third while they are sent.
+    m.host_now(&[0xC0, 0x00, 0x41, 0xDB, 0xDC, 0xDB, 0xDD, 0xDB, 0x41, 0x42, 0xC0]);
+    let mut content = packet_lsf.0.to_vec();
+    content.extend((0..26).map(|i| i * 9));
+    let full = m.frame(0x10, &content);
+    m.host_now(&full[1..]);
+    for _ in 0..4 {
+        m.read();
+    }
+    m.host_now(&[0xC0, 0x00, 0x43, 0xC0]);
+    for _ in 0..4 {
+        m.read();
+    }
+    ends(&mut m);
+
+    // What is ignored: wrong lengths, a wrong CRC, other ports and commands, empty settings; junk, folded FENDs, a cut frame.
+    for (header, n) in [(0x10, 32), (0x20, 25), (0x20, 0), (0x30, 40), (0x03, 1), (0x02, 1), (0x01, 0), (0x05, 0)] {
+        let content = vec![0x11; n];
+        let frame = m.frame(header, &content);
+        m.host_now(&frame);
+    }
+    let mut wrong = lsf.clone();
+    wrong.0[3] ^= 1;
+    let frame = m.frame(0x20, &wrong.0);
+    m.host_now(&frame);
+    let mut long = wrong.0.to_vec();
+    long.extend([1, 2, 3]);
+    let frame = m.frame(0x10, &long);
+    m.host_now(&frame);
+    m.host_now(&[0x55, 0x66, 0xC0, 0xC0, 0xC0, 0x00]);
+    m.read();
+
+    // The cut frame is closed: a packet of one byte. Then an overlong stretch, whose FEND opens a setting.
+    m.host_now(&[0x44, 0xC0]);
+    m.host_now(&[0x07; 1712]);
+    m.host_now(&[0xC0, 0x21, 0xDB, 0xDC, 0x09, 0xC0]);
+    for _ in 0..3 {
+        m.read();
+    }
+    ends(&mut m);
+
+    // A stream: data before its LSF waits; nine frames, of which one finds the queue full; the LSF passes all the same. A packet waits behind it.
+    for i in 0..9 {
+        let mut content = vec![i; 26];
+        content[5] = 0xE0 - 32 * i.min(7);
+        content[6] = if i == 7 { 0x80 } else { 0 };
+        let n = 26 + i as usize % 4;
+        content.resize(n, 0xEE);
+        let frame = m.frame(0x20, &content);
+        m.host_now(&frame);
+    }
+    m.read();
+    m.host_now(&[0xC0, 0x00, 0x45, 0xC0]);
+    let frame = m.frame(0x20, &[&lsf.0[..], &[9]].concat());
+    m.host_now(&frame);
+    for _ in 0..10 {
+        m.read();
+    }
+    // While PTT is on nothing is heard, and nothing refused.
+    let heard = m.lsf_event(&lsf);
+    m.put(&heard);
+    let heard = m.packet_event(200);
+    m.put(&heard);
+    let heard = m.stream_event(9, &[1; 5], 40000, true);
+    m.put(&heard);
+    m.put(&[9, 255]);
+    ends(&mut m);
+    for _ in 0..3 {
+        m.read();
+    }
+    ends(&mut m);
+
+    // A packet from the air, read in pieces; its wrong order; a new message over one not read.
+    let event = m.lsf_event(&packet_lsf);
+    m.put(&event);
+    for counter in [0, 1, 128 + 7] {
+        let event = m.packet_event(counter);
+        m.put(&event);
+    }
+    for n in [0, 1, 40, 255, 255] {
+        m.put(&[9, n]);
+    }
+    for counters in [&[0, 2, 133][..], &[33], &[128]] {
+        let event = m.lsf_event(&packet_lsf);
+        m.put(&event);
+        for counter in counters {
+            let event = m.packet_event(*counter);
+            m.put(&event);
+        }
+        m.put(&[9, 20]);
+    }
+    for i in 0..32 {
+        if i == 0 {
+            let event = m.lsf_event(&packet_lsf);
+            m.put(&event);
+        }
+        let event = m.packet_event(i);
+        m.put(&event);
+    }
+    let event = m.packet_event(128 + 25);
+    m.put(&event);
+    for _ in 0..5 {
+        m.put(&[9, 255]);
+    }
+
+    // A stream from the air: numbers that skip and go back, its end; the LSF from its segments, one of them torn at first.
+    let event = m.lsf_event(&lsf);
+    m.put(&event);
+    m.put(&[9, 255]);
+    for (number, end) in [(0, false), (1, false), (5, false), (4, false)] {
+        let event = m.stream_event(1, &lsf.0[5..10], number, end);
+        m.put(&event);
+        m.put(&[9, 255]);
+    }
+    for i in [3, 0, 5, 2, 4] {
+        let mut part = lsf.0[5 * i..5 * i + 5].to_vec();
+        part[0] ^= (i == 5) as u8;
+        let event = m.stream_event(i as u8, &part, 6, false);
+        m.put(&event);
+        m.put(&[9, 255]);
+    }
+    for (i, number) in [(5, 32766), (0, 32767), (1, 0)] {
+        let event = m.stream_event(i, &lsf.0[5 * i as usize..5 * i as usize + 5], number, i == 1);
+        m.put(&event);
+        m.put(&[9, 255]);
+    }
+    let event = m.lsf_event(&lsf);
+    m.put(&event);
+    let event = m.stream_event(0, &lsf.0[..5], 7, true);
+    m.put(&event);
+    let event = m.packet_event(0);
+    m.put(&event);
+    m.put(&[9, 255]);
+    m.put(&[9, 255]);
+
+    // Channel access: busy sets a check, which is met early, met when due and set again; full duplex sends past it.
+    m.host_now(&[0xC0, 0x00, 0x46, 0xC0]);
+    m.put(&[2, 1]);
+    m.clock(20000);
+    m.read();
+    m.clock(21919);
+    m.put(&[2, 0]);
+    m.read();
+    m.clock(21920);
+    m.read();
+    m.clock(23842);
+    m.read();
+    m.clock(100);
+    m.read();
+    m.host_now(&[0xC0, 0x25, 0x07, 0xC0]);
+    for _ in 0..3 {
+        m.read();
+    }
+    ends(&mut m);
+    // Back to half duplex: the old check is still pending. Five packets, of which the last finds the queue full; a stream goes before them.
+    m.host_now(&[0xC0, 0x05, 0x00, 0xC0]);
+    for b in 0x50..0x55 {
+        m.host_now(&[0xC0, 0x00, b, 0xC0]);
+    }
+    m.read();
+    let frame = m.frame(0x20, &lsf.0);
+    m.host_now(&frame);
+    m.host_now(&[0xC0, 0x05, 0x01, 0xC0]);
+    let frame = m.frame(0x20, &[0x81; 26]);
+    m.host_now(&frame);
+    for _ in 0..4 {
+        m.read();
+    }
+    m.end_time(0);
+    let t = m.tnc.clock();
+    m.clock(t);
+    m.read();
+    // A kind that is not known ends the stream.
+    m.out.starts.push(m.out.bytes.len());
+    m.out.bytes.extend([10, 8]);
+    let line = crate::events::line(10, 9, m.tnc.ptt(), &[]);
+    m.out.lines.push(line);
+    m.out
+}
