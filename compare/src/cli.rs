@@ -71,16 +71,14 @@ pub fn main() {
     }));
     let o = options();
     println!("seed {}", o.seed);
+    if let Some(folder) = &o.record {
+        return record(folder, o.seed);
+    }
     let mut wrong = 0;
     if let Some(path) = &o.probe {
         wrong += compare_functions(path, o.seed);
     }
-    if o.program.is_some() || o.probe.is_none() {
-        wrong += compare_events(&o);
-    }
-    if let Some(folder) = &o.record {
-        record(folder, o.seed);
-    }
+    wrong += compare_events(&o);
     println!("{}", if wrong == 0 { "no difference".to_string() } else { format!("{wrong} DIFFERENCES") });
     std::process::exit((wrong > 0) as i32)
 }
@@ -206,10 +204,10 @@ fn compare_one(program: Option<&str>, s: Stream, t: &mut Totals) {
         if t.wrong > 3 {
             return;
         }
+        println!("DIFFERENCE at event {at} of a stream: the Rust {rust:?}, ours {mine:?}");
         let upto = s.starts.get(at + 1).copied().unwrap_or(s.bytes.len());
         let least = shrunk(program, &s.bytes[..upto], t.inside_only);
         let r = run(&split(&least));
-        println!("DIFFERENCE at event {at} of a stream: the Rust {rust:?}, ours {mine:?}");
         let last = |lines: &[String]| lines[lines.len().saturating_sub(4)..].join(" | ");
         println!("  smallest input {}", hex(&least));
         println!("  the Rust's last lines {} {:?}", last(&r.lines), r.end.map(|e| e.row));
@@ -274,10 +272,13 @@ fn record(folder: &str, seed: u64) {
     let all = |f: fn(&crate::functions::Case) -> &[u8]| -> Vec<u8> { sink.kept.iter().flat_map(|c| f(c).iter().copied()).collect() };
     write("probe/stdin", &all(|c| &c.request));
     write("probe/stdout", &all(|c| &c.answer));
+    if !std::path::Path::new(&format!("{folder}/event_program")).is_dir() {
+        return;
+    }
     let mut rng = Rng::new(seed);
     let tour = crate::generate::tour(&mut rng, &mut Reached::default());
     assert!(tour.end.is_none() && tour.unforeseen.is_none(), "the recorded stream leaves the domain");
     let text: String = tour.lines.iter().map(|l| format!("{l}\n")).collect();
-    write("replay/stdin", &tour.bytes);
-    write("replay/stdout", text.as_bytes());
+    write("event_program/stdin", &tour.bytes);
+    write("event_program/stdout", text.as_bytes());
 }

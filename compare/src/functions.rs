@@ -390,8 +390,10 @@ fn builders(rng: &mut Rng, sink: &mut Sink) {
     for kind in 5..=7 {
         for port in 0..=255u8 {
             for value in 0..=255u8 {
-                // Ports that both take get every room; the refused ones need no more than one.
-                setting(rng, sink, kind, port, value);
+                // Once for a port that is refused, several times, for as many rooms, for one that is not.
+                for _ in 0..if port < 16 { 6 } else { 1 } {
+                    setting(rng, sink, kind, port, value);
+                }
             }
         }
     }

@@ -253,7 +253,7 @@ impl<'a> Maker<'a> {
         match self.rng.below(6) {
             0 if self.rng.one_in(4) => {
                 let n = self.rng.within(1709, 1716);
-                let mut out = vec![0xC0, self.rng.pick(&[0x10, 0x20, 0x30])];
+                let mut out = vec![0xC0, self.rng.pick(&[0x01, 0x05, 0x10, 0x20, 0x30])];
                 out.extend(vec![0x55; n - 1]);
                 out.push(0xC0);
                 out
@@ -578,8 +578,8 @@ impl<'a> Maker<'a> {
     }
 
     fn one_step(&mut self) {
-        if !self.host.is_empty() && !self.rng.one_in(4) {
-            for _ in 0..self.rng.within(1, 50) {
+        if !self.host.is_empty() && self.rng.one_in(2) {
+            for _ in 0..self.rng.within(1, 30) {
                 if let Some(b) = self.host.pop_front() {
                     self.byte(b);
                 }
@@ -737,17 +737,19 @@ pub fn fixed(rng: &mut Rng, reached: &mut Reached) -> Vec<Stream> {
             }
         }
     }
-    // A stretch of 1,709 to 1,714 bytes, then a setting that shows whether the reader is in step.
+    // A stretch of 1,709 to 1,714 bytes, a setting that shows in the preamble; its FEND opens a setting, or a packet.
     for n in 1709..=1714 {
-        let mut m = Maker::new(rng, reached, all);
-        m.byte(0xC0);
-        m.host_now(&[0x01]);
-        m.host_now(&vec![0x41; n - 1]);
-        m.host_now(&[0xC0, 0x01, 0x33, 0xC0, 0x00, 0x41, 0xC0]);
-        for _ in 0..5 {
-            m.read();
+        for behind in [&[0x02, 0x33, 0xC0, 0x00, 0x41, 0xC0][..], &[0x00, 0x41, 0xC0], &[0x01, 0x33, 0xC0, 0x00, 0x41, 0xC0]] {
+            let mut m = Maker::new(rng, reached, all);
+            m.host_now(&[0xC0, 0x01]);
+            m.host_now(&vec![0x41; n - 1]);
+            m.byte(0xC0);
+            m.host_now(behind);
+            for _ in 0..5 {
+                m.read();
+            }
+            out.push(m.out);
         }
-        out.push(m.out);
     }
     // Every order of the six LICH segments, ten to a stream.
     for k in 0..72 {
