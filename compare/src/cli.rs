@@ -31,7 +31,7 @@ fn options() -> Options {
             "--record" => o.record = Some(value()),
             "--inside-only" => o.inside_only = true,
             "--lines" => {
-                lines();
+                lines(words.next().as_deref() == Some("--past"));
                 std::process::exit(0)
             }
             _ => usage(),
@@ -41,14 +41,18 @@ fn options() -> Options {
 }
 
 fn usage() -> ! {
-    eprintln!("compare [--probe PATH] [--program PATH] [--seed N] [--events N] [--record FOLDER] [--inside-only] | --lines");
+    eprintln!("compare [--probe PATH] [--program PATH] [--seed N] [--events N] [--record FOLDER] [--inside-only] | --lines [--past]");
     std::process::exit(2)
 }
 
-// The Rust's lines for the events on standard input, and why they end.
-fn lines() {
+// The Rust's lines for the events on standard input, and why they end; or past the end of the domain too.
+fn lines(past: bool) {
     let mut input = vec![];
     std::io::stdin().read_to_end(&mut input).unwrap();
+    if past {
+        crate::events::run_past(&split(&input)).iter().for_each(|l| println!("{l}"));
+        return;
+    }
     let r = run(&split(&input));
     for l in &r.lines {
         println!("{l}");
@@ -226,7 +230,7 @@ fn compare_events(o: &Options) -> u64 {
     }
     let fixed_streams = t.streams;
     while t.compared < events {
-        let n = rng.pick(&[1000, 5000, 10000, 20000]);
+        let n = rng.pick(&[1000, 1000, 5000, 5000, 10000, 10000, 20000, 20000, 60000]);
         let s = random(&mut rng, &mut reached, n);
         compare_one(program, s, &mut t);
     }

@@ -262,3 +262,19 @@ pub fn run(events: &[&[u8]]) -> Run {
     }
     out
 }
+
+// What the Rust makes of a stream, also past the end of the domain, until it panics.
+pub fn run_past(events: &[&[u8]]) -> Vec<String> {
+    let mut tnc = SoftTnc::new();
+    let mut out = vec![];
+    for event in events.iter().filter(|e| is_whole(e)) {
+        match catch_unwind(AssertUnwindSafe(|| apply(&mut tnc, event))) {
+            Ok((number, bytes)) => out.push(line(event[0], number, tnc.ptt(), &bytes)),
+            Err(_) => {
+                out.push(format!("{:02X} panics", event[0]));
+                break;
+            }
+        }
+    }
+    out
+}
