@@ -5,8 +5,7 @@ fn main() {
     println!("cargo:rerun-if-env-changed=M17_RUST");
     let here = env::var("CARGO_MANIFEST_DIR").unwrap();
     let folder = env::var("M17_RUST").unwrap_or(format!("{here}/../../shared/docs/src/src"));
-    let folder = fs::canonicalize(&folder)
-        .unwrap_or_else(|e| panic!("the folder of the Rust, {folder}: {e}"));
+    let folder = fs::canonicalize(&folder).unwrap_or_else(|e| panic!("the folder of the Rust, {folder}: {e}"));
     let file = |name: &str| -> String {
         let path = folder.join(name);
         println!("cargo:rerun-if-changed={}", path.display());

@@ -6,7 +6,7 @@ use crate::rng::Rng;
 use std::io::{Read, Write};
 use std::panic::{catch_unwind, AssertUnwindSafe};
 use std::process::Stdio;
-use std::time::Instant;
+use std::time::{Duration, Instant};
 
 struct Options {
     probe: Option<String>,
@@ -19,7 +19,14 @@ struct Options {
 }
 
 fn options() -> Options {
-    let mut o = Options { probe: None, program: None, seed: 1713, events: 3_000_000, record: None, inside_only: false };
+    let mut o = Options {
+        probe: None,
+        program: None,
+        seed: 1713,
+        events: 3_000_000,
+        record: None,
+        inside_only: false,
+    };
     let mut words = std::env::args().skip(1);
     while let Some(word) = words.next() {
         let mut value = || words.next().unwrap_or_else(|| usage());
@@ -83,7 +90,14 @@ pub fn main() {
         wrong += compare_functions(path, o.seed);
     }
     wrong += compare_events(&o);
-    println!("{}", if wrong == 0 { "no difference".to_string() } else { format!("{wrong} DIFFERENCES") });
+    println!(
+        "{}",
+        if wrong == 0 {
+            "no difference".to_string()
+        } else {
+            format!("{wrong} DIFFERENCES")
+        }
+    );
     std::process::exit((wrong > 0) as i32)
 }
 
@@ -154,12 +168,14 @@ fn shrunk(program: &str, stream: &[u8], inside_only: bool) -> Vec<u8> {
         let input: Vec<u8> = events.concat();
         r.unforeseen.is_some() || differs(&r.lines, r.end.as_ref(), &ours(program, &input), inside_only).is_some()
     };
+    // Long enough for any find that we have seen; what is left then shows the difference too.
+    let until = Instant::now() + Duration::from_secs(40);
     let mut left = split(stream);
     let mut size = left.len().div_ceil(2);
     loop {
         let mut at = 0;
         let mut fewer = false;
-        while at < left.len() {
+        while at < left.len() && Instant::now() < until {
             let end = (at + size).min(left.len());
             let rest: Vec<&[u8]> = [&left[..at], &left[end..]].concat();
             if rest.iter().rev().skip(1).all(|e| is_whole(e)) && shows(&rest) {
@@ -199,7 +215,11 @@ fn compare_one(program: Option<&str>, s: Stream, t: &mut Totals) {
     }
     if let Some(u) = &s.unforeseen {
         t.wrong += 1;
-        println!("UNFORESEEN: {u}, at event {} of {}", s.lines.len(), hex(&s.bytes[..s.bytes.len().min(4000)]));
+        println!(
+            "UNFORESEEN: {u}, at event {} of {}",
+            s.lines.len(),
+            hex(&s.bytes[..s.bytes.len().min(4000)])
+        );
     }
     let Some(program) = program else { return };
     let got = ours(program, &s.bytes);
@@ -223,7 +243,10 @@ fn compare_events(o: &Options) -> u64 {
     let (program, events) = (o.program.as_deref(), o.events);
     let start = Instant::now();
     let mut rng = Rng::new(o.seed ^ 0xE7E7);
-    let mut t = Totals { inside_only: o.inside_only, ..Totals::default() };
+    let mut t = Totals {
+        inside_only: o.inside_only,
+        ..Totals::default()
+    };
     let mut reached = Reached::default();
     for s in fixed(&mut rng, &mut reached) {
         compare_one(program, s, &mut t);
@@ -234,8 +257,15 @@ fn compare_events(o: &Options) -> u64 {
         let s = random(&mut rng, &mut reached, n);
         compare_one(program, s, &mut t);
     }
-    let side = if program.is_some() { "compared" } else { "run on the Rust alone (no program was named)" };
-    println!("events: {} {side} inside the domain, in {} streams, {fixed_streams} of them fixed", t.compared, t.streams);
+    let side = if program.is_some() {
+        "compared"
+    } else {
+        "run on the Rust alone (no program was named)"
+    };
+    println!(
+        "events: {} {side} inside the domain, in {} streams, {fixed_streams} of them fixed",
+        t.compared, t.streams
+    );
     let each: Vec<String> = t.kinds.iter().map(|(k, n)| format!("{k:02X} {n}")).collect();
     println!("  by kind: {}", each.join(", "));
     println!("  where the domain ended (streams), and our line was held to document 01:");
@@ -281,7 +311,10 @@ fn record(folder: &str, seed: u64) {
     }
     let mut rng = Rng::new(seed);
     let tour = crate::generate::tour(&mut rng, &mut Reached::default());
-    assert!(tour.end.is_none() && tour.unforeseen.is_none(), "the recorded stream leaves the domain");
+    assert!(
+        tour.end.is_none() && tour.unforeseen.is_none(),
+        "the recorded stream leaves the domain"
+    );
     let text: String = tour.lines.iter().map(|l| format!("{l}\n")).collect();
     write("event_program/stdin", &tour.bytes);
     write("event_program/stdout", text.as_bytes());

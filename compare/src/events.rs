@@ -30,7 +30,10 @@ pub const ROWS: [(Row, &str); 9] = [
     (Row::FullQueue, "a read in a packet transmission, the packet queue full"),
     (Row::Basic823, "823 or more decoded bytes on port 0 (the Rust panics)"),
     (Row::LichIndex, "LICH index over 5 while acquiring (the Rust panics; answer 6)"),
-    (Row::FinalLength, "final length over 25 in a packet's reception (the Rust panics; answer 6)"),
+    (
+        Row::FinalLength,
+        "final length over 25 in a packet's reception (the Rust panics; answer 6)",
+    ),
     (Row::StreamIndex, "LICH index over 5 in a stream's reception (answer 6)"),
     (Row::StreamNumber, "frame number over 32,767 (answer 6)"),
     (Row::StrayFinal, "final length over 25 elsewhere (answer 6)"),
@@ -125,7 +128,9 @@ pub struct Ended {
 
 impl Ended {
     pub fn allows(&self, line: &str) -> bool {
-        self.allowed.iter().any(|a| if a.ends_with(' ') { line.starts_with(a) } else { line == a })
+        self.allowed
+            .iter()
+            .any(|a| if a.ends_with(' ') { line.starts_with(a) } else { line == a })
     }
 }
 
@@ -175,10 +180,15 @@ fn apply(tnc: &mut SoftTnc, event: &[u8]) -> (u8, Vec<u8>) {
         5 => tnc.handle_frame(Frame::Lsf(LsfFrame(body.try_into().unwrap()))),
         6 => {
             let counter = match body[25] {
-                b @ 128.. => PacketFrameCounter::FinalFrame { payload_len: b as usize - 128 },
+                b @ 128.. => PacketFrameCounter::FinalFrame {
+                    payload_len: b as usize - 128,
+                },
                 b => PacketFrameCounter::Frame { index: b as usize },
             };
-            tnc.handle_frame(Frame::Packet(PacketFrame { payload: body[..25].try_into().unwrap(), counter }))
+            tnc.handle_frame(Frame::Packet(PacketFrame {
+                payload: body[..25].try_into().unwrap(),
+                counter,
+            }))
         }
         7 => tnc.handle_frame(Frame::Stream(StreamFrame {
             lich_idx: body[0],
@@ -242,7 +252,11 @@ pub struct Run {
 
 pub fn run(events: &[&[u8]]) -> Run {
     let mut tnc = SoftTnc::new();
-    let mut out = Run { lines: vec![], end: None, unforeseen: None };
+    let mut out = Run {
+        lines: vec![],
+        end: None,
+        unforeseen: None,
+    };
     for event in events {
         if !is_whole(event) {
             out.lines.push(line(event[0], 9, tnc.ptt(), &[]));

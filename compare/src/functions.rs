@@ -79,7 +79,13 @@ impl Asked {
         answer.extend(two(value));
         answer.extend(room);
         let care = answer.len();
-        Case { kind: self.kind, request, answer, care, inside }
+        Case {
+            kind: self.kind,
+            request,
+            answer,
+            care,
+            inside,
+        }
     }
 }
 
@@ -95,7 +101,14 @@ pub struct Sink<'a> {
 
 impl<'a> Sink<'a> {
     pub fn new(probe: Option<&'a mut Probe>) -> Self {
-        Sink { probe, kept: vec![], bytes: 0, calls: [0; 256], outside: [0; 256], differences: 0 }
+        Sink {
+            probe,
+            kept: vec![],
+            bytes: 0,
+            calls: [0; 256],
+            outside: [0; 256],
+            differences: 0,
+        }
     }
 
     fn put(&mut self, case: Case) {
@@ -205,7 +218,15 @@ pub fn all(rng: &mut Rng, sink: &mut Sink) {
 
 fn crc(sink: &mut Sink, a: Vec<u8>) {
     let value = crate::crc::m17_crc(&a) as usize;
-    sink.put(Asked { kind: 8, from: 0, a, b: vec![] }.answered(0, value, vec![], true));
+    sink.put(
+        Asked {
+            kind: 8,
+            from: 0,
+            a,
+            b: vec![],
+        }
+        .answered(0, value, vec![], true),
+    );
 }
 
 fn crcs(rng: &mut Rng, sink: &mut Sink) {
@@ -274,19 +295,52 @@ fn length_of(f: &Result<KissFrame, KissError>) -> usize {
 fn basic(rng: &mut Rng, sink: &mut Sink, a: Vec<u8>) {
     let rust = KissFrame::new_basic_packet(&a);
     let room = room_around(rng, length_of(&rust));
-    built(sink, Asked { kind: 1, from: rng.byte(), a, b: vec![] }, room, rust, true);
+    built(
+        sink,
+        Asked {
+            kind: 1,
+            from: rng.byte(),
+            a,
+            b: vec![],
+        },
+        room,
+        rust,
+        true,
+    );
 }
 
 fn full(rng: &mut Rng, sink: &mut Sink, a: Vec<u8>, b: Vec<u8>) {
     let rust = KissFrame::new_full_packet(&a, &b);
     let room = room_around(rng, length_of(&rust));
-    built(sink, Asked { kind: 2, from: rng.byte(), a, b }, room, rust, true);
+    built(
+        sink,
+        Asked {
+            kind: 2,
+            from: rng.byte(),
+            a,
+            b,
+        },
+        room,
+        rust,
+        true,
+    );
 }
 
 fn setup(rng: &mut Rng, sink: &mut Sink, a: Vec<u8>) {
     let rust = KissFrame::new_stream_setup(&a);
     let room = room_around(rng, length_of(&rust));
-    built(sink, Asked { kind: 3, from: rng.byte(), a, b: vec![] }, room, rust, true);
+    built(
+        sink,
+        Asked {
+            kind: 3,
+            from: rng.byte(),
+            a,
+            b: vec![],
+        },
+        room,
+        rust,
+        true,
+    );
 }
 
 // The frame's bytes laid out as the body of event 07.
@@ -303,7 +357,12 @@ fn data(rng: &mut Rng, sink: &mut Sink, f: StreamFrame) {
     let a = stream_body(&f);
     let rust = KissFrame::new_stream_data(&f);
     let room = room_around(rng, length_of(&rust));
-    let asked = Asked { kind: 4, from: rng.byte(), a, b: vec![] };
+    let asked = Asked {
+        kind: 4,
+        from: rng.byte(),
+        a,
+        b: vec![],
+    };
     if f.lich_idx > 5 || f.frame_number > 32767 {
         let bytes = counted_up(asked.from, room);
         return sink.put(asked.answered(6, 0, bytes, false));
@@ -318,7 +377,12 @@ fn setting(rng: &mut Rng, sink: &mut Sink, kind: u8, port: u8, value: u8) {
         _ => (5, KissFrame::set_full_duplex(port, value != 0)),
     };
     let room = room_around(rng, 5);
-    let asked = Asked { kind, from: rng.byte(), a: vec![port, value], b: vec![] };
+    let asked = Asked {
+        kind,
+        from: rng.byte(),
+        a: vec![port, value],
+        b: vec![],
+    };
     if port > 15 {
         let bytes = counted_up(asked.from, room);
         return sink.put(asked.answered(6, 0, bytes, false));
@@ -406,7 +470,12 @@ fn one_frame(rng: &mut Rng, sink: &mut Sink, a: &[u8]) {
     frame.data[..a.len()].copy_from_slice(a);
     frame.len = a.len();
     let header = a.iter().position(|b| *b != 0xC0);
-    let asked = |kind, from| Asked { kind, from, a: a.to_vec(), b: vec![] };
+    let asked = |kind, from| Asked {
+        kind,
+        from,
+        a: a.to_vec(),
+        b: vec![],
+    };
 
     let (port, command) = match header {
         None => ((3, 0, false), (3, 0, false)),
@@ -544,10 +613,23 @@ fn frames(rng: &mut Rng, sink: &mut Sink) {
 fn escape_one(rng: &mut Rng, sink: &mut Sink, a: &[u8]) {
     let len = a.len() + a.iter().filter(|b| **b == 0xC0 || **b == 0xDB).count();
     let n = room_around(rng, len);
-    let asked = Asked { kind: 12, from: rng.byte(), a: a.to_vec(), b: vec![] };
+    let asked = Asked {
+        kind: 12,
+        from: rng.byte(),
+        a: a.to_vec(),
+        b: vec![],
+    };
     let mut room = counted_up(asked.from, n);
     let whole = inside_escape(a, &mut vec![0; 2 * a.len()]);
-    sink.put(Asked { kind: 14, from: 0, a: a.to_vec(), b: vec![] }.answered(0, whole, vec![], true));
+    sink.put(
+        Asked {
+            kind: 14,
+            from: 0,
+            a: a.to_vec(),
+            b: vec![],
+        }
+        .answered(0, whole, vec![], true),
+    );
     if n < len {
         return sink.put(asked.answered(7, 0, room, false));
     }
@@ -557,7 +639,12 @@ fn escape_one(rng: &mut Rng, sink: &mut Sink, a: &[u8]) {
 
 fn unescape_one(rng: &mut Rng, sink: &mut Sink, a: &[u8]) {
     let n = (a.len() + 2).saturating_sub(rng.below(6));
-    let asked = Asked { kind: 13, from: rng.byte(), a: a.to_vec(), b: vec![] };
+    let asked = Asked {
+        kind: 13,
+        from: rng.byte(),
+        a: a.to_vec(),
+        b: vec![],
+    };
     let mut room = counted_up(asked.from, n);
     let count = inside_unescape(a, &mut room);
     sink.put(asked.answered(0, count, room, true));
@@ -595,7 +682,15 @@ struct Reader {
 
 impl Reader {
     fn new(sink: &mut Sink) -> Self {
-        sink.put(Asked { kind: 32, from: 0, a: vec![], b: vec![] }.answered(0, 0, vec![], true));
+        sink.put(
+            Asked {
+                kind: 32,
+                from: 0,
+                a: vec![],
+                b: vec![],
+            }
+            .answered(0, 0, vec![], true),
+        );
         Reader { rust: KissBuffer::new() }
     }
 
@@ -619,7 +714,12 @@ impl Reader {
 
     // How many bytes were taken; none where the domain ends.
     fn write(&mut self, sink: &mut Sink, a: &[u8]) -> Option<usize> {
-        let asked = Asked { kind: 33, from: 0, a: a.to_vec(), b: vec![] };
+        let asked = Asked {
+            kind: 33,
+            from: 0,
+            a: a.to_vec(),
+            b: vec![],
+        };
         if self.refuses() {
             sink.put(asked.answered(5, 0, vec![], false));
             return None;
@@ -633,7 +733,12 @@ impl Reader {
     }
 
     fn next(&mut self, rng: &mut Rng, sink: &mut Sink) -> bool {
-        let asked = Asked { kind: 34, from: rng.byte(), a: vec![], b: vec![] };
+        let asked = Asked {
+            kind: 34,
+            from: rng.byte(),
+            a: vec![],
+            b: vec![],
+        };
         let frame = self.rust.next_frame().map(|f| f.as_bytes().to_vec());
         let more = rng.below(3);
         let case = match &frame {
@@ -653,7 +758,13 @@ impl Reader {
         let value = held.len() * 2 + self.rust.taken() as usize;
         let mut room = vec![0; 1713];
         room[..held.len()].copy_from_slice(held);
-        let mut case = Asked { kind: READER_STATE, from: 0, a: vec![], b: vec![] }.answered(0, value, room, true);
+        let mut case = Asked {
+            kind: READER_STATE,
+            from: 0,
+            a: vec![],
+            b: vec![],
+        }
+        .answered(0, value, room, true);
         case.care = 3 + held.len();
         sink.put(case);
     }
@@ -791,7 +902,15 @@ fn lsf_case(kind: u8, lsf: &LsfFrame, v: u8, sink: &mut Sink) {
         }
     };
     let b = if kind >= 22 { vec![v] } else { vec![] };
-    sink.put(Asked { kind, from: 0, a: lsf.0.to_vec(), b }.answered(0, value, room, inside));
+    sink.put(
+        Asked {
+            kind,
+            from: 0,
+            a: lsf.0.to_vec(),
+            b,
+        }
+        .answered(0, value, room, inside),
+    );
 }
 
 fn data_type_number(d: DataType) -> usize {
@@ -826,7 +945,7 @@ fn lsfs(rng: &mut Rng, sink: &mut Sink) {
             lsf_case(kind, &f, 0, sink);
         }
         lsf_case(22, &f, (t % 2) as u8, sink);
-        lsf_case(22, &f, (t % 2 ^ 1) as u8, sink);
+        lsf_case(22, &f, 1 - (t % 2) as u8, sink);
         for v in 0..4 {
             lsf_case(23, &f, v, sink);
             lsf_case(24, &f, v, sink);
@@ -851,14 +970,29 @@ struct Lich {
 
 impl Lich {
     fn new(sink: &mut Sink) -> Self {
-        sink.put(Asked { kind: 48, from: 0, a: vec![], b: vec![] }.answered(0, 0, vec![], true));
-        Lich { rust: LichCollection::new() }
+        sink.put(
+            Asked {
+                kind: 48,
+                from: 0,
+                a: vec![],
+                b: vec![],
+            }
+            .answered(0, 0, vec![], true),
+        );
+        Lich {
+            rust: LichCollection::new(),
+        }
     }
 
     fn set(&mut self, rng: &mut Rng, sink: &mut Sink, index: u8, part: [u8; 5]) {
         let mut a = vec![index];
         a.extend(part);
-        let asked = Asked { kind: 49, from: 0, a, b: vec![] };
+        let asked = Asked {
+            kind: 49,
+            from: 0,
+            a,
+            b: vec![],
+        };
         if index > 5 {
             sink.put(asked.answered(6, 0, vec![], false));
         } else {
@@ -866,8 +1000,21 @@ impl Lich {
             sink.put(asked.answered(0, 0, vec![], true));
         }
         let n = self.rust.valid_segments();
-        sink.put(Asked { kind: 50, from: 0, a: vec![], b: vec![] }.answered(0, n, vec![], true));
-        let asked = Asked { kind: 51, from: rng.byte(), a: vec![], b: vec![] };
+        sink.put(
+            Asked {
+                kind: 50,
+                from: 0,
+                a: vec![],
+                b: vec![],
+            }
+            .answered(0, n, vec![], true),
+        );
+        let asked = Asked {
+            kind: 51,
+            from: rng.byte(),
+            a: vec![],
+            b: vec![],
+        };
         let mut room = counted_up(asked.from, 31);
         let value = match self.rust.try_assemble() {
             None => 0,
@@ -922,12 +1069,28 @@ pub fn sample(rng: &mut Rng, sink: &mut Sink) {
     for a in [&[][..], &[0xC0], &[0x00, 0xC0, 0xDB, 0xFF]] {
         let mut room = counted_up(0xEE, 8);
         let count = inside_escape(a, &mut room);
-        sink.put(Asked { kind: 12, from: 0xEE, a: a.to_vec(), b: vec![] }.answered(0, count, room, true));
+        sink.put(
+            Asked {
+                kind: 12,
+                from: 0xEE,
+                a: a.to_vec(),
+                b: vec![],
+            }
+            .answered(0, count, room, true),
+        );
     }
     for a in [&[0xDB, 0xDC][..], &[0x41, 0xDB], &[0xDB, 0x41]] {
         let mut room = counted_up(0xEE, 2);
         let count = inside_unescape(a, &mut room);
-        sink.put(Asked { kind: 13, from: 0xEE, a: a.to_vec(), b: vec![] }.answered(0, count, room, true));
+        sink.put(
+            Asked {
+                kind: 13,
+                from: 0xEE,
+                a: a.to_vec(),
+                b: vec![],
+            }
+            .answered(0, count, room, true),
+        );
     }
     for input in [&[0x55, 0xC0][..], &[0xC0, 0xC0, 1, 5, 0xC0, 0xC0], &[0xC0, 1, 5, 0xC0, 2, 6, 0xC0]] {
         let mut r = Reader::new(sink);
@@ -957,7 +1120,13 @@ pub fn sample(rng: &mut Rng, sink: &mut Sink) {
         (f.lich_idx, f.frame_number) = (index, number);
         data(rng, sink, f);
     }
-    for a in [&[][..], &[0xC0], &[0xC0, 0x00, 0x41], &[0xC0, 0x03, 0x0A, 0xC0], &[0xC0, 0xC0, 0x25, 0xDB, 0x41, 0x07, 0xC0]] {
+    for a in [
+        &[][..],
+        &[0xC0],
+        &[0xC0, 0x00, 0x41],
+        &[0xC0, 0x03, 0x0A, 0xC0],
+        &[0xC0, 0xC0, 0x25, 0xDB, 0x41, 0x07, 0xC0],
+    ] {
         one_frame(rng, sink, a);
     }
     let f = any_lsf(rng);

@@ -50,9 +50,25 @@ pub struct Maker<'a> {
 
 impl<'a> Maker<'a> {
     fn new(rng: &'a mut Rng, reached: &'a mut Reached, open: [bool; ROWS.len()]) -> Self {
-        let out = Stream { bytes: vec![], starts: vec![], lines: vec![], end: None, unforeseen: None, after: 0 };
+        let out = Stream {
+            bytes: vec![],
+            starts: vec![],
+            lines: vec![],
+            end: None,
+            unforeseen: None,
+            after: 0,
+        };
         let host = VecDeque::new();
-        Maker { rng, reached, tnc: SoftTnc::new(), open, out, host, air: VecDeque::new(), lsfs_in_transmission: 0 }
+        Maker {
+            rng,
+            reached,
+            tnc: SoftTnc::new(),
+            open,
+            out,
+            host,
+            air: VecDeque::new(),
+            lsfs_in_transmission: 0,
+        }
     }
 
     fn over(&self) -> bool {
@@ -241,7 +257,9 @@ impl<'a> Maker<'a> {
             2 => self.frame(0x05, &[0]),
             3 => self.frame(0x05, &[self.rng.clone().byte() | 1]),
             // The Rust's own builder, which does not escape: FEND, header, FEND, FEND for 192.
-            4 => KissFrame::new_set_tx_delay(port & 3, self.rng.pick(&[0xC0, 0xDB, 5])).as_bytes().to_vec(),
+            4 => KissFrame::new_set_tx_delay(port & 3, self.rng.pick(&[0xC0, 0xDB, 5]))
+                .as_bytes()
+                .to_vec(),
             _ => {
                 let v = self.rng.byte();
                 self.frame((port & 3) << 4 | 1, &[v, 9][..self.rng.clone().within(1, 2)])
@@ -405,14 +423,26 @@ impl<'a> Maker<'a> {
             1 => self.rng.below(33),
             _ => self.rng.below(6),
         } as u8;
-        let slip = if self.rng.one_in(4) { self.rng.below(n as usize + 1) as u8 } else { 255 };
+        let slip = if self.rng.one_in(4) {
+            self.rng.below(n as usize + 1) as u8
+        } else {
+            255
+        };
         for i in 0..n {
-            let index = if i == slip { self.rng.pick(&[0, i.wrapping_sub(1) & 127, i + 1, 31, 32, 33, 127]) } else { i };
+            let index = if i == slip {
+                self.rng.pick(&[0, i.wrapping_sub(1) & 127, i + 1, 31, 32, 33, 127])
+            } else {
+                i
+            };
             let event = self.packet_event(index);
             self.air.push_back(event);
         }
         if !self.rng.one_in(8) {
-            let len = if self.rng.one_in(12) { self.rng.pick(&[26, 27, 127]) } else { self.rng.below(26) as u8 };
+            let len = if self.rng.one_in(12) {
+                self.rng.pick(&[26, 27, 127])
+            } else {
+                self.rng.below(26) as u8
+            };
             let event = self.packet_event(128 + len);
             self.air.push_back(event);
         }
@@ -423,7 +453,11 @@ impl<'a> Maker<'a> {
         lsf.set_mode(Mode::Stream);
         let event = self.lsf_event(&lsf);
         self.air.push_back(event);
-        let mut number = if self.rng.one_in(6) { self.rng.pick(&[32760, 32766, 32767]) } else { self.rng.below(3) as u16 };
+        let mut number = if self.rng.one_in(6) {
+            self.rng.pick(&[32760, 32766, 32767])
+        } else {
+            self.rng.below(3) as u16
+        };
         for i in 0..self.rng.within(1, 12) {
             let index = (i % 6) as u8;
             let at = 5 * index as usize;
@@ -494,9 +528,7 @@ impl<'a> Maker<'a> {
         let t = match (self.rng.below(12), marks) {
             (0..=5, Some(t)) => (t + self.rng.below(4) as u64).saturating_sub(1),
             (6, _) => now.saturating_sub(self.rng.below(5000) as u64),
-            (7, _) if self.open[Row::Clock.index()] && self.rng.one_in(4) => {
-                self.rng.pick(&[LIMIT - 1, LIMIT, LIMIT + 1, u64::MAX])
-            }
+            (7, _) if self.open[Row::Clock.index()] && self.rng.one_in(4) => self.rng.pick(&[LIMIT - 1, LIMIT, LIMIT + 1, u64::MAX]),
             (8, _) if self.rng.one_in(40) => LIMIT - self.rng.below(3) as u64,
             (9, _) => now / 2,
             _ => now + self.rng.pick(&[0, 1, 2, 3, 4, 480, 1919, 1920, 1921, 7681]),
@@ -714,7 +746,10 @@ pub fn fixed(rng: &mut Rng, reached: &mut Reached) -> Vec<Stream> {
         for n in lengths {
             for dense in [false, true] {
                 let mut m = Maker::new(rng, reached, all);
-                let lsf = m.frame(0x20, &LsfFrame::new_voice(&crate::address::Address::Broadcast, &crate::address::Address::Invalid).0);
+                let lsf = m.frame(
+                    0x20,
+                    &LsfFrame::new_voice(&crate::address::Address::Broadcast, &crate::address::Address::Invalid).0,
+                );
                 m.host_now(&lsf);
                 let mut content = m.rng.bytes(n, if dense { 1 } else { 0 });
                 if header != 0 && n >= 30 {
@@ -739,7 +774,11 @@ pub fn fixed(rng: &mut Rng, reached: &mut Reached) -> Vec<Stream> {
     }
     // A stretch of 1,709 to 1,714 bytes, a setting that shows in the preamble; its FEND opens a setting, or a packet.
     for n in 1709..=1714 {
-        for behind in [&[0x02, 0x33, 0xC0, 0x00, 0x41, 0xC0][..], &[0x00, 0x41, 0xC0], &[0x01, 0x33, 0xC0, 0x00, 0x41, 0xC0]] {
+        for behind in [
+            &[0x02, 0x33, 0xC0, 0x00, 0x41, 0xC0][..],
+            &[0x00, 0x41, 0xC0],
+            &[0x01, 0x33, 0xC0, 0x00, 0x41, 0xC0],
+        ] {
             let mut m = Maker::new(rng, reached, all);
             m.host_now(&[0xC0, 0x01]);
             m.host_now(&vec![0x41; n - 1]);
@@ -911,7 +950,16 @@ pub fn tour(rng: &mut Rng, reached: &mut Reached) -> Stream {
     ends(&mut m);
 
     // What is ignored: wrong lengths, a wrong CRC, other ports and commands, empty settings; junk, folded FENDs, a cut frame.
-    for (header, n) in [(0x10, 32), (0x20, 25), (0x20, 0), (0x30, 40), (0x03, 1), (0x02, 1), (0x01, 0), (0x05, 0)] {
+    for (header, n) in [
+        (0x10, 32),
+        (0x20, 25),
+        (0x20, 0),
+        (0x30, 40),
+        (0x03, 1),
+        (0x02, 1),
+        (0x01, 0),
+        (0x05, 0),
+    ] {
         let content = vec![0x11; n];
         let frame = m.frame(header, &content);
         m.host_now(&frame);
