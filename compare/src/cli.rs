@@ -306,9 +306,6 @@ fn record(folder: &str, seed: u64) {
     let all = |f: fn(&crate::functions::Case) -> &[u8]| -> Vec<u8> { sink.kept.iter().flat_map(|c| f(c).iter().copied()).collect() };
     write("probe/stdin", &all(|c| &c.request));
     write("probe/stdout", &all(|c| &c.answer));
-    if !std::path::Path::new(&format!("{folder}/event_program")).is_dir() {
-        return;
-    }
     let mut rng = Rng::new(seed);
     let tour = crate::generate::tour(&mut rng, &mut Reached::default());
     assert!(
@@ -316,6 +313,6 @@ fn record(folder: &str, seed: u64) {
         "the recorded stream leaves the domain"
     );
     let text: String = tour.lines.iter().map(|l| format!("{l}\n")).collect();
-    write("event_program/stdin", &tour.bytes);
-    write("event_program/stdout", text.as_bytes());
+    write("replay/stdin", &tour.bytes);
+    write("replay/stdout", text.as_bytes());
 }

@@ -1,0 +1,89 @@
+-- One event's line, the events of a block, and what is printed where the input ends, from document 01's "Event program" and its answer 9. Assumes nothing.
+use Prim.Native.Nat.{ℕ, zero, suc, _+_, _-_, min}
+use mathlib.Core.Bool.{Bool}
+use mathlib.Core.List.{List, [], _∷_}
+use lib.Dec.{leb}
+use lib.ListN.{length, take}
+use lib.Seq.{sets}
+use Rattle.choice.specs.Pick.{pick, and}
+use Rattle.any_calls.specs.Calls.{World}
+use Rattle.event_line.specs.declared.Line.{Line}
+use Rattle.event_line.specs.declared.Line.the-variants.{Wrote, NumberOver9, NoRoom}
+use Rattle.event_line.specs.Events.{known, bodyLen}
+use Rattle.event_line.specs.Line.{lineOf, written}
+use Rattle.event_call.specs.Answer.{MOST}
+use Rattle.event_step.specs.Step.{Turn, applied}
+
+-- the most bytes of a line
+abbrev pub LINE : ℕ
+LINE = 518
+
+-- where the lines stand: the world, the room that events put bytes into, the room of the lines and how much of it is written
+pub record Spot : Type 0 where
+  pub world : World
+  pub bytes : List ℕ
+  pub room : List ℕ
+  pub wrote : ℕ
+
+abbrev pub spot : World → List ℕ → List ℕ → ℕ → Spot
+spot w bytes room n = record { world = w; bytes = bytes; room = room; wrote = n }
+
+-- ---- one event
+
+-- the bytes that it prints; no event has more than 255
+abbrev pub shown : Turn → List ℕ
+shown t = take (min (t .count) MOST) (t .bytes)
+
+abbrev pub lineFor : ℕ → Turn → List ℕ
+lineFor kind t = lineOf kind (t .number) (t .ptt) (shown t)
+
+abbrev pub behind : ℕ → Turn → List ℕ → ℕ → Spot
+behind kind t room n = spot (t .world) (t .bytes) (sets room n (lineFor kind t)) (n + length (lineFor kind t))
+
+unfoldable pub turned : ℕ → List ℕ → Spot → Spot
+turned kind body p = behind kind (applied kind body (p .world) (p .bytes)) (p .room) (p .wrote)
+
+-- ---- a block
+
+pub record Block : Type 0 where
+  pub used : ℕ
+  pub left : Spot
+
+abbrev pub block : ℕ → Spot → Block
+block u p = record { used = u; left = p }
+
+-- the kind is known, and its whole body follows
+unfoldable pub complete : ℕ → List ℕ → Bool
+complete kind s = and (known kind) (leb (bodyLen kind) (length s))
+
+-- there is place for a longest line, and the event is whole
+unfoldable pub ready : ℕ → List ℕ → Spot → Bool
+ready kind s p = and (leb LINE (length (p .room) - p .wrote)) (complete kind s)
+
+-- passes over n bytes, and then takes event by event, as long as the next one is ready
+unfoldable pub walk : ℕ → List ℕ → ℕ → Spot → Block
+walk n [] u p = block u p
+walk (suc n) (x ∷ s) u p = walk n s u p
+walk zero (k ∷ s) u p = pick (ready k s p) (walk (bodyLen k) s (u + 1 + bodyLen k) (turned k (take (bodyLen k) s) p)) (block u p)
+
+-- a room for fewer than 255 bytes: nothing is done
+unfoldable pub blockRun : List ℕ → Spot → Block
+blockRun s p = pick (leb MOST (length (p .bytes))) (walk 0 s 0 p) (block 0 p)
+
+-- ---- the end
+
+-- where no event stands whole: at the end of the input nothing, else the kind with 9
+unfoldable pub refusal : List ℕ → Bool → List ℕ
+refusal [] on = []
+refusal (k ∷ s) on = lineOf k 9 on []
+
+-- the place behind a line that was to be written at a place
+abbrev pub placeAfter : Line → ℕ → ℕ
+placeAfter (Wrote n) at = n
+placeAfter NumberOver9 at = at
+placeAfter NoRoom at = at
+
+-- the answer of `last_line`, and the room after it: where the line has no room nothing is written
+unfoldable pub lastLine : List ℕ → Bool → List ℕ → ℕ × List ℕ
+lastLine [] on d = (0, d)
+lastLine (k ∷ s) on d = (placeAfter (written k 9 on [] d 0 .0) 0, written k 9 on [] d 0 .1)

@@ -1,0 +1,38 @@
+-- What is promised of a run over a whole input, from document 01's "Event program". Each is proved in proofs/Whole.antt. Assumes nothing.
+use Prim.Native.Nat.{ℕ, zero, suc}
+use mathlib.Core.Bool.{Bool, false}
+use mathlib.Core.Path.{_≡_}
+use mathlib.Core.List.{List, [], _∷_, _++_}
+use lib.ListN.{take, drop}
+use Rattle.choice.specs.Pick.{pick}
+use Rattle.any_calls.specs.Calls.{World}
+use Rattle.event_line.specs.Events.{bodyLen}
+use Rattle.event_line.specs.Line.{lineOf}
+use Rattle.event_call.specs.Answer.{keyed}
+use Rattle.event_step.specs.Step.{Turn, applied}
+use Rattle.event_block.specs.Block.{Spot, spot, lineFor, complete, refusal, blockRun}
+
+-- all that the events of an input print, from a world and a room of bytes on, n bytes passed over first: each its line, and the first that is not whole its kind with 9
+unfoldable pub printed : ℕ → List ℕ → World → List ℕ → List ℕ
+printed n [] w room = []
+printed (suc n) (x ∷ s) w room = printed n s w room
+printed zero (k ∷ s) w room =
+    pick (complete k s)
+    (lineFor k (applied k (take (bodyLen k) s) w room) ++ printed (bodyLen k) s (applied k (take (bodyLen k) s) w room .world) (applied k (take (bodyLen k) s) w room .bytes))
+    (lineOf k 9 (keyed (w .tnc)) [])
+
+-- whether an event stands whole at the front
+unfoldable pub opens : List ℕ → Bool
+opens [] = false
+opens (k ∷ s) = complete k s
+
+-- a run of the program over an input, in turns: of what is left any beginning s is looked at, with any room d, and the rest follows; it ends where no event stands whole
+pub data Runs : List ℕ → World → List ℕ → List ℕ → Type 0 where
+  ends : (s : List ℕ) (w : World) (room : List ℕ) → opens s ≡ false → Runs s w room (refusal s (keyed (w .tnc)))
+  turns : (s more d out : List ℕ) (w : World) (room : List ℕ)
+      → Runs (drop (blockRun s (spot w room d 0) .used) (s ++ more)) (blockRun s (spot w room d 0) .left .world) (blockRun s (spot w room d 0) .left .bytes) out
+      → Runs (s ++ more) w room (take (blockRun s (spot w room d 0) .left .wrote) (blockRun s (spot w room d 0) .left .room) ++ out)
+
+-- cutting the input into blocks changes nothing: whatever the turns, a run prints what the input asks
+abbrev pub CutsChangeNothing : Type 0
+CutsChangeNothing = (s : List ℕ) (w : World) (room out : List ℕ) → Runs s w room out → out ≡ printed 0 s w room

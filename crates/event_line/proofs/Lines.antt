@@ -1,0 +1,114 @@
+-- Laws of hex and of lines. Assumes nothing.
+use Prim.Native.Nat.{ℕ, zero, suc, _+_, _-_, _*_, _/_, _%_, _<_, _≤_}
+use mathlib.Core.Bool.{Bool, true, false}
+use mathlib.Core.Path.{_≡_, refl, sym, ap, _∙_}
+use mathlib.Core.List.{List, [], _∷_, _++_}
+use native.Mathlib.Numerals.{add-one}
+use native.Mathlib.Omega.{arith}
+use borrow.Author.Tests.{le-leb, lt-leb, ne-eqb}
+use lib.Dec.{leb}
+use lib.ListN.{length, getD, set, drop, length-append, drop-of-length-le}
+use lib.Seq.{sets, sets-eq, drop-cons}
+use Rattle.choice.specs.Pick.{pick}
+use Rattle.store.specs.Room.{placed}
+use Rattle.store.proofs.Runs.{sets-append}
+use Rattle.event_line.specs.declared.Line.{Line}
+use Rattle.event_line.specs.declared.Line.the-variants.{Wrote, NumberOver9, NoRoom}
+use Rattle.event_line.specs.Line.{hexDigit, hexOf, flag, tailOf, lineOf, stored, fits, written}
+
+pub hex-length : (s : List ℕ) → length (hexOf s) ≡ 2 * length s
+unfolding hexOf
+hex-length [] = refl
+hex-length (b ∷ s) = omega (arith, hex-length s)
+
+pub hex-at : (s : List ℕ) (i : ℕ) → i < length s → hexOf (drop i s) ≡ hexDigit (getD s i 0 / 16) ∷ hexDigit (getD s i 0 % 16) ∷ hexOf (drop (i + 1) s)
+unfolding hexOf
+hex-at s i h = rw (add-one, drop-cons s i 0)
+
+pub hex-done : (s : List ℕ) (i : ℕ) → length s ≤ i → hexOf (drop i s) ≡ []
+unfolding hexOf
+hex-done s i h = rw (drop-of-length-le s h)
+
+-- ---- a line in stores
+
+-- six stores in a row, and a run after them
+six-then : (d : List ℕ) (at a b e n g f : ℕ) (t : List ℕ) → sets (set (set (set (set (set (set d at a) (at + 1) b) (at + 2) e) (at + 3) n) (at + 4) g) (at + 5) f) (at + 6) t ≡ sets d at (a ∷ b ∷ e ∷ n ∷ g ∷ f ∷ t)
+six-then d at a b e n g f t =
+    let p1 : at + 1 ≡ suc at = omega arith in
+    let p2 : at + 2 ≡ suc (suc at) = omega arith in
+    let p3 : at + 3 ≡ suc (suc (suc at)) = omega arith in
+    let p4 : at + 4 ≡ suc (suc (suc (suc at))) = omega arith in
+    let p5 : at + 5 ≡ suc (suc (suc (suc (suc at)))) = omega arith in
+    let p6 : at + 6 ≡ suc (suc (suc (suc (suc (suc at))))) = omega arith in
+    rw (p1, p2, p3, p4, p5, p6)
+
+pub tail-none : (bs : List ℕ) → length bs ≡ 0 → tailOf bs ≡ 10 ∷ []
+unfolding tailOf
+tail-none [] h = refl
+tail-none (b ∷ bs) h = absurd (omega arith)
+
+pub tail-some : (bs : List ℕ) → (length bs ≡ 0 → ⊥) → tailOf bs ≡ 32 ∷ (hexOf bs ++ (10 ∷ []))
+unfolding tailOf
+tail-some [] h = absurd (h refl)
+tail-some (b ∷ bs) h = refl
+
+-- what stands in a line, whatever its tail is
+pub line-is : (k n : ℕ) (ptt : Bool) (bs t : List ℕ) (a b f : ℕ) → a ≡ hexDigit (k / 16) → b ≡ hexDigit (k % 16) → f ≡ flag ptt → tailOf bs ≡ t → a ∷ b ∷ 32 ∷ (48 + n) ∷ 32 ∷ f ∷ t ≡ lineOf k n ptt bs
+unfolding lineOf hexOf
+line-is k n ptt bs t a b f ea eb ef et = rw (ea, eb, ef, et)
+
+both : {p q : ℕ} {u v : List ℕ} → p ≡ q → u ≡ v → _≡_ {A = ℕ × List ℕ} (p, u) (q, v)
+both g k = cc
+
+pub line-none : (d : List ℕ) (at : ℕ) (l : List ℕ) (a b m f : ℕ) → a ∷ b ∷ 32 ∷ m ∷ 32 ∷ f ∷ 10 ∷ [] ≡ l → _≡_ {A = ℕ × List ℕ} (at + 7, set (set (set (set (set (set (set d at a) (at + 1) b) (at + 2) 32) (at + 3) m) (at + 4) 32) (at + 5) f) (at + 6) 10) (stored l at d)
+line-none d at l a b m f e = rw (← e) (ap (λ (x : List ℕ). (at + 7, x)) (six-then d at a b 32 m 32 f (10 ∷ [])))
+
+pub line-some : (d : List ℕ) (at z : ℕ) (l h x : List ℕ) (a b m f : ℕ) → a ∷ b ∷ 32 ∷ m ∷ 32 ∷ f ∷ 32 ∷ (h ++ (10 ∷ [])) ≡ l → _≡_ {A = ℕ × List ℕ} (z, x) (stored h (at + 7) (set (set (set (set (set (set (set d at a) (at + 1) b) (at + 2) 32) (at + 3) m) (at + 4) 32) (at + 5) f) (at + 6) 32)) → _≡_ {A = ℕ × List ℕ} (z + 1, set x z 10) (stored l at d)
+line-some d at z l h x a b m f e w =
+    let p7 : at + 7 ≡ suc (at + 6) = omega arith in
+    let ez : z ≡ at + 7 + length h = ap (λ (q : ℕ × List ℕ). q .0) w in
+    let ex : x ≡ sets (set (set (set (set (set (set (set d at a) (at + 1) b) (at + 2) 32) (at + 3) m) (at + 4) 32) (at + 5) f) (at + 6) 32) (at + 7) h = ap (λ (q : ℕ × List ℕ). q .1) w in
+    let six : List ℕ = set (set (set (set (set (set d at a) (at + 1) b) (at + 2) 32) (at + 3) m) (at + 4) 32) (at + 5) f in
+    let stores : set x z 10 ≡ sets d at (a ∷ b ∷ 32 ∷ m ∷ 32 ∷ f ∷ 32 ∷ (h ++ (10 ∷ []))) =
+    rw (ex, ez) (sym (sets-append (set six (at + 6) 32) (at + 7) h (10 ∷ [])) ∙ rw p7 (six-then d at a b 32 m 32 f (32 ∷ (h ++ (10 ∷ []))))) in
+    let len : z + 1 ≡ at + length (a ∷ b ∷ 32 ∷ m ∷ 32 ∷ f ∷ 32 ∷ (h ++ (10 ∷ []))) = omega (arith, length-append h (10 ∷ [])) in
+    rw (← e) (both len stores)
+
+-- ---- how long a line is
+
+pub line-none-long : (k n : ℕ) (ptt : Bool) (bs : List ℕ) → length bs ≡ 0 → length (lineOf k n ptt bs) ≡ 7
+unfolding lineOf hexOf
+line-none-long k n ptt bs h = rw (tail-none bs h)
+
+pub line-some-long : (k n : ℕ) (ptt : Bool) (bs : List ℕ) → (length bs ≡ 0 → ⊥) → length (lineOf k n ptt bs) ≡ 8 + 2 * length bs
+unfolding lineOf hexOf
+line-some-long k n ptt bs h = rw (tail-some bs h) (omega (arith, length-append (hexOf bs) (10 ∷ []), hex-length bs))
+
+pub line-most : (k n : ℕ) (ptt : Bool) (bs : List ℕ) → length (lineOf k n ptt bs) ≤ 8 + 2 * length bs
+line-most k n ptt [] = omega (arith, line-none-long k n ptt [] refl)
+line-most k n ptt (b ∷ bs) = omega (arith, line-some-long k n ptt (b ∷ bs) (λ e. absurd (omega arith)))
+
+pub line-least : (k n : ℕ) (ptt : Bool) (bs : List ℕ) → 7 ≤ length (lineOf k n ptt bs)
+line-least k n ptt [] = omega (arith, line-none-long k n ptt [] refl)
+line-least k n ptt (b ∷ bs) = omega (arith, line-some-long k n ptt (b ∷ bs) (λ e. absurd (omega arith)))
+
+pub fits-line : (k n : ℕ) (ptt : Bool) (bs : List ℕ) (room : ℕ) → fits (length bs) room ≡ leb (length (lineOf k n ptt bs)) room
+unfolding fits pick
+fits-line k n ptt [] room = rw (line-none-long k n ptt [] refl)
+fits-line k n ptt (b ∷ bs) room =
+    let some : length (b ∷ bs) ≡ 0 → ⊥ = λ e. absurd (omega arith) in rw (line-some-long k n ptt (b ∷ bs) some, ne-eqb (length (b ∷ bs)) 0 some)
+
+-- ---- the answers of `put_line`
+
+module _ (k n : ℕ) (ptt : Bool) (bs d : List ℕ) (at : ℕ) where
+  pub written-over : 9 < n → (NumberOver9, d) ≡ written k n ptt bs d at
+  unfolding written pick
+  written-over h = rw (lt-leb n 9 h)
+
+  pub written-no : n ≤ 9 → length d < at + length (lineOf k n ptt bs) → (NoRoom, d) ≡ written k n ptt bs d at
+  unfolding written pick
+  written-no h g = rw (le-leb n 9 h, lt-leb (at + length (lineOf k n ptt bs)) (length d) g)
+
+  pub written-yes : n ≤ 9 → at + length (lineOf k n ptt bs) ≤ length d → (Wrote (at + length (lineOf k n ptt bs)), sets d at (lineOf k n ptt bs)) ≡ written k n ptt bs d at
+  unfolding written pick
+  written-yes h g = rw (le-leb n 9 h, le-leb (at + length (lineOf k n ptt bs)) (length d) g, sets-eq (lineOf k n ptt bs) d at g)

@@ -1,0 +1,37 @@
+-- What the events of the radio make of what the TNC's call gave, and the bytes of a frame for the modulator, from document 01's "Event program". Assumes nothing.
+use Prim.Native.Nat.{ℕ}
+use mathlib.Core.List.{List, [], _∷_}
+use lib.ListN.{length}
+use Rattle.store.specs.Room.{over}
+use Rattle.channel.specs.declared.Channel.{Channel}
+use Rattle.radio.specs.Radio.{airNumber}
+use Rattle.streams.specs.Layout.{bytesOf}
+use Rattle.tnc_modulator.specs.declared.TxAnswer.{TxAnswer}
+use Rattle.tnc_modulator.specs.declared.TxAnswer.the-variants.{Nothing, Preamble, Lsf, Stream, Packet, EndOfTransmission, WrongStore, OutOfBounds}
+use Rattle.tnc_modulator.specs.Modulator.{kindNumber}
+use Rattle.tnc.specs.declared.TncHeard.{TncHeard}
+use Rattle.tnc.specs.declared.TncTx.{TncTx}
+use Rattle.event_frame.specs.Packet.{packetBody}
+use Rattle.event_call.specs.declared.Applied.{Applied}
+use Rattle.event_call.specs.Answer.{answered}
+
+-- the delay, the LSF, or a frame laid out as the body of its event
+unfoldable pub frameBytes : TxAnswer → TncTx → List ℕ
+frameBytes Nothing g = []
+frameBytes Preamble g = g .«tx_delay» ∷ []
+frameBytes Lsf g = g .lsf .0
+frameBytes Stream g = bytesOf (g .stream)
+frameBytes Packet g = packetBody (g .packet)
+frameBytes EndOfTransmission g = []
+frameBytes WrongStore g = []
+frameBytes OutOfBounds g = []
+
+-- how many bytes of the room are printed, and the room: what lies beyond stays
+unfoldable pub laidOut : TxAnswer → TncTx → List ℕ → ℕ × List ℕ
+laidOut a g room = (length (frameBytes a g), over (frameBytes a g) room)
+
+abbrev pub ofHeard : Channel → TncHeard × List ℕ × List ℕ → Applied × List ℕ × List ℕ
+ofHeard c q = (answered (airNumber (q .0 .answer)) 0 (q .0 .tnc) c, q .1, q .2)
+
+abbrev pub ofTx : TncTx → List ℕ → Applied × List ℕ
+ofTx q room = (answered (kindNumber (q .answer)) (laidOut (q .answer) q room .0) (q .tnc) (q .channel), laidOut (q .answer) q room .1)

@@ -1,0 +1,157 @@
+// The event program's run: events on standard input, a line for each on standard output. Input and output go in blocks of 64 KiB, so that an input of any length takes the
+// same memory and one read and write serve thousands of events.
+use channel::Channel;
+use event_call::EventBox;
+use event_line::Next;
+use libc::STDIN_FILENO;
+use libc::STDOUT_FILENO;
+use tnc_core::Tnc;
+ghost use mathlib.Core.Path.{_≡_};
+ghost use Prim.Native.Nat.{_≤_};
+ghost use lib.ListN.{length};
+
+pub fn run() {
+    let mut input = [0u8; 65536];
+    let mut output = [0u8; 65536];
+    let mut reader = [0u8; 1713];
+    let mut packets = [0u8; 3420];
+    let mut streams = [0u8; 230];
+    let mut rx = [0u8; 855];
+    let mut message = [0u8; 1713];
+    let mut bytes = [0u8; 255];
+    let mut session = Session {
+        station: new_box(),
+        from: 0,
+        held: 0,
+        going: true,
+    };
+    // A loop needs an end that can be proved: more turns than any input has.
+    let mut turns = u64::MAX;
+    while turns > 0 {
+        turns -= 1;
+        session = turn(
+            session,
+            &mut input,
+            &mut output,
+            &mut reader,
+            &mut packets,
+            &mut streams,
+            &mut rx,
+            &mut message,
+            &mut bytes,
+        );
+        if !session.going {
+            return;
+        }
+    }
+}
+
+// The bytes of the input that are held and not used stand from index from up to index held.
+struct Session {
+    station: EventBox,
+    from: usize,
+    held: usize,
+    going: bool,
+}
+
+fn new_box() -> EventBox {
+    let tnc = Tnc::new();
+    let channel = Channel::new();
+    EventBox {
+        tnc: tnc,
+        channel: channel,
+    }
+}
+
+// The events that are held whole, as far as the output has room, and their lines; where there is none, more input, or the end.
+fn turn(
+    session: Session,
+    input: &mut [u8; 65536],
+    output: &mut [u8; 65536],
+    reader: &mut [u8; 1713],
+    packets: &mut [u8; 3420],
+    streams: &mut [u8; 230],
+    rx: &mut [u8; 855],
+    message: &mut [u8; 1713],
+    bytes: &mut [u8; 255],
+) -> Session
+    requires { ⌜ (session .from ≤ session .held) × (session .held ≤ 65536) ⌝ }
+    ensures { λ r. ⌜ (r .from ≤ r .held) × (r .held ≤ 65536) ⌝ }
+{
+    let from = session.from;
+    let held = session.held;
+    let before = session.station;
+    let all: &[u8] = input;
+    let run = event_block::run_block(
+        before,
+        &all[from..held],
+        output,
+        reader,
+        packets,
+        streams,
+        rx,
+        message,
+        bytes,
+    );
+    let station = run.after;
+    let used = run.used;
+    let wrote = run.wrote;
+    let stopped = Session {
+        station: station,
+        from: 0,
+        held: 0,
+        going: false,
+    };
+    let lines: &[u8] = output;
+    if !io::write_all(STDOUT_FILENO, &lines[..wrote]) {
+        return stopped;
+    }
+    let at = from + used;
+    if used > 0 {
+        return Session {
+            station: station,
+            from: at,
+            held: held,
+            going: true,
+        };
+    }
+    let left: &[u8] = input;
+    if let Next::Unknown(_) = event_line::next_event(&left[..held], at) {
+        finish(station, &left[at..held]);
+        return stopped;
+    }
+    store::shift(input, at, held);
+    let kept = held - at;
+    let more = fill(input, kept);
+    if more == kept {
+        let rest: &[u8] = input;
+        finish(station, &rest[..kept]);
+        return stopped;
+    }
+    Session {
+        station: station,
+        from: 0,
+        held: more,
+        going: true,
+    }
+}
+
+// Reads once behind the bytes that are held, and answers how many are held then.
+fn fill(input: &mut [u8], held: usize) -> usize
+    requires { ⌜ held ≤ length (now input) ⌝ }
+    ensures { λ r. ⌜ (held ≤ r) × (r ≤ length (now (input .entry))) ⌝ }
+{
+    let room = &mut input[held..];
+    let got = libc::read(STDIN_FILENO, room);
+    let count = io::count(got, room);
+    held + count
+}
+
+// What is printed at the end of the input, or at a kind that is not known.
+fn finish(station: EventBox, rest: &[u8]) {
+    let mut line = [0u8; 8];
+    let count = event_block::last_line(station, rest, &mut line);
+    if count <= 8 {
+        io::write_all(STDOUT_FILENO, &line[..count]);
+    }
+}
