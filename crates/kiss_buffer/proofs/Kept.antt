@@ -14,7 +14,6 @@ use Rattle.kiss_buffer.specs.declared.WriteAnswer.the-variants.{Done, Fu
 use Rattle.kiss_buffer.specs.declared.Written.{Written}
 use Rattle.kiss_buffer.specs.declared.NextAnswer.the-variants.{WrongStore as WrongStore′, OutOfBounds as OutOfBounds′}
 use Rattle.kiss_buffer.specs.declared.NextFrame.{NextFrame}
-use Rattle.kiss_reader.specs.Meaning.{kept, framesOf}
 use Rattle.kiss_reader.specs.Reader.{STORE, next, refused}
 use Rattle.kiss_buffer.specs.Calls.{soundBuffer, notWritten, writes, written, nextAnswer, notSought, found, nextFrame, writeNumber, nextNumber}
 use Rattle.kiss_buffer.specs.Promises.{Box, afterWritten, afterNextFrame, RunGivesItsFrames, RefusedKeepsAll, WriteTakesSome, DrainedIsNotRefused, TakingEnds, SoundStaysSound, EveryInputHasItsRun, AllReadBack, none-read, one-read, Demand3}

@@ -4,8 +4,8 @@ use mathlib.Core.Path.{_≡_, refl, sym, ap, _∙_}
 use mathlib.Core.List.{List, [], _∷_, _++_, append-assoc}
 use native.Mathlib.Numerals.{add-one}
 use native.Mathlib.Omega.{arith}
-use lib.ListN.{length, take, drop, set, replicate, length-set, length-append, length-drop, length-replicate}
-use lib.Seq.{sets, sets-eq, length-sets, length-take-le, take-all, set-append-left, drop-at, drop-drop, take-append-le, drop-append-le}
+use lib.ListN.{length, take, drop, set, replicate, length-set, length-append, length-replicate}
+use lib.Seq.{sets, sets-eq, length-sets, length-take-le, take-all, set-append-left, drop-at, drop-drop}
 use borrow.Rule.Slice.PartMut.{midOf, putMid}
 use Rattle.store.specs.declared.Copied.{Copied}
 use Rattle.store.specs.Room.{placed, copied}
