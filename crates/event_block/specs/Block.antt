@@ -30,7 +30,7 @@ spot w bytes room n = record { world = w; bytes = bytes; room = room; wrote = n 
 
 -- ---- one event
 
--- the bytes that it prints; no event has more than 255
+-- the bytes that it prints; no event has more than 255 (`AtMost255` of crate event_step), so that a line has a longest length
 abbrev pub shown : Turn → List ℕ
 shown t = take (min (t .count) MOST) (t .bytes)
 

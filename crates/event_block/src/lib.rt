@@ -144,7 +144,7 @@ fn step(
     }
 }
 
-// No event has more bytes.
+// No event has more bytes (event_step, specs/Promises.antt); the bound is tested, so that the room of a line can be known before the event is applied.
 fn at_most(count: usize) -> usize
     ensures { λ r. ⌜ r ≡ min count MOST ⌝ }
 {
