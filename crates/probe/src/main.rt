@@ -13,14 +13,14 @@ use kiss_read::PortRead;
 use libc::STDIN_FILENO;
 use libc::STDOUT_FILENO;
 use lich::Assembly;
+use lich::LichCollection;
+use lich::SegmentAnswer;
+use lich::ValidSegments;
 use protocol::DataType;
 use protocol::EncryptionType;
-use lich::LichCollection;
 use protocol::LsfFrame;
 use protocol::Mode;
-use lich::SegmentAnswer;
 use protocol::StreamFrame;
-use lich::ValidSegments;
 ghost use Prim.Native.Nat.{_<_};
 
 struct Answer {

@@ -36,7 +36,10 @@ again tx-ending = refl
 again tx-ending-at = refl
 
 pub saved-is-restored : SavedIsRestored
-saved-is-restored b t = (valid t, λ i. record {
-  tnc = record { buffer = b .tnc .buffer; sending = b .tnc .sending; radio = record { state = again t i; outgoing = b .tnc .radio .outgoing }; ptt = b .tnc .ptt };
-  channel = b .channel;
-})
+saved-is-restored b t = (
+  valid t,
+  λ i. record {
+    tnc = record { buffer = b .tnc .buffer; sending = b .tnc .sending; radio = record { state = again t i; outgoing = b .tnc .radio .outgoing }; ptt = b .tnc .ptt };
+    channel = b .channel;
+  },
+)

@@ -24,7 +24,7 @@ returns-2 c =
     ∙ ap ofTurn (d .apply .ensures)
     ∙ ap
     (λ (b : EventBox).
-        ofTurn (applied (a .kind) (a .body .now) (worldOf b (a .reader .now) (a .packets .now) (a .streams .now) (a .rx .now) (a .message .now)) (a .bytes .now)))
+    ofTurn (applied (a .kind) (a .body .now) (worldOf b (a .reader .now) (a .packets .now) (a .streams .now) (a .rx .now) (a .message .now)) (a .bytes .now)))
     (k .restore .ensures)
     ∙ pick-yes _ (not-yes (i .before .is-state .ensures) (i .if1 .left)) refl
 
