@@ -7,6 +7,9 @@ fn main() {
     let folder = env::var("M17_RUST").unwrap_or(format!("{here}/../../../shared/docs/src/src"));
     let folder = fs::canonicalize(&folder).unwrap_or_else(|e| panic!("the folder of the Rust, {folder}: {e}"));
     let file = |name: &str| format!("include!({:?});", folder.join(name).display().to_string());
+    let modem = fs::read_to_string(folder.join("modem.rs")).expect("modem.rs");
+    let from = modem.find("pub enum ModulatorFrame {").expect("ModulatorFrame in modem.rs");
+    let to = from + modem[from..].find("\n}").expect("the end of ModulatorFrame") + 2;
     let text = [
         format!("#[allow(dead_code)] pub mod address {{ {} }}", file("address.rs")),
         format!("pub mod crc {{ use crate::stand_ins::crc; {} }}", file("crc.rs")),
@@ -15,6 +18,8 @@ fn main() {
             file("kiss.rs")
         ),
         format!("#[allow(dead_code)] pub mod protocol {{ {} }}", file("protocol.rs")),
+        format!("pub mod modem {{ use crate::protocol::{{LsfFrame, PacketFrame, StreamFrame}};\n{}\n}}", &modem[from..to]),
+        format!("#[allow(dead_code)] pub mod tnc {{ use crate::stand_ins::log; {} }}", file("tnc.rs")),
         "pub mod bits { pub use crate::stand_ins::bits::*; }".to_string(),
     ]
     .join("\n");

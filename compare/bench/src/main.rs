@@ -1,4 +1,6 @@
-// Both sides from one driver on the same input. `bench` prints a table of medians; `bench SIDE WHAT N` runs one side N times, for whoever counts instructions.
+// Both sides from one driver on the same input. `bench` prints a table of medians; `bench SIDE WHAT N` runs one side N times, for whoever counts instructions; `bench stream N` and
+// `bench events` are the event stream and the Rust's event program.
+mod events;
 mod stand_ins;
 include!(concat!(env!("OUT_DIR"), "/m17core.rs"));
 use std::hint::black_box;
@@ -169,6 +171,12 @@ fn main() {
     if words.first().map(String::as_str) == Some("names") {
         println!("{}", ALL.join(" "));
         return;
+    }
+    if words.first().map(String::as_str) == Some("events") {
+        return events::events();
+    }
+    if words.first().map(String::as_str) == Some("stream") {
+        return events::stream(words[1].parse().unwrap());
     }
     if words.len() == 3 {
         let mut x = prepared(&words[1]);

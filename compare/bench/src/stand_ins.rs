@@ -53,6 +53,13 @@ pub mod crc {
     }
 }
 
+pub mod log {
+    macro_rules! debug {
+        ($($t:tt)*) => {{ let _ = format_args!($($t)*); }};
+    }
+    pub(crate) use debug;
+}
+
 pub mod bits {
     pub struct BitsMut<'a>(&'a mut [u8]);
     impl<'a> BitsMut<'a> {
