@@ -1,7 +1,8 @@
 // Document 01's events over the Rust's SoftTnc, the lines that the event program has to print, and where demand 2's domain ends.
 use crate::modem::ModulatorFrame;
-use crate::protocol::{Frame, LsfFrame, PacketFrame, PacketFrameCounter, StreamFrame};
+use crate::protocol::PacketFrameCounter;
 use crate::tnc::{Now, SoftTnc};
+use crate::told::told;
 use std::panic::{catch_unwind, AssertUnwindSafe};
 
 pub const LIMIT: u64 = 1 << 62;
@@ -173,30 +174,6 @@ pub fn line(kind: u8, number: u8, ptt: bool, bytes: &[u8]) -> String {
 fn apply(tnc: &mut SoftTnc, event: &[u8]) -> (u8, Vec<u8>) {
     let body = &event[1..];
     match event[0] {
-        1 => assert_eq!(tnc.write_kiss(body), 1, "a byte that is not taken"),
-        2 => tnc.set_data_carrier_detect(body[0] != 0),
-        3 => tnc.set_now(u64::from_be_bytes(body.try_into().unwrap())),
-        4 => tnc.set_tx_end_time(u32::from_be_bytes(body.try_into().unwrap()) as usize),
-        5 => tnc.handle_frame(Frame::Lsf(LsfFrame(body.try_into().unwrap()))),
-        6 => {
-            let counter = match body[25] {
-                b @ 128.. => PacketFrameCounter::FinalFrame {
-                    payload_len: b as usize - 128,
-                },
-                b => PacketFrameCounter::Frame { index: b as usize },
-            };
-            tnc.handle_frame(Frame::Packet(PacketFrame {
-                payload: body[..25].try_into().unwrap(),
-                counter,
-            }))
-        }
-        7 => tnc.handle_frame(Frame::Stream(StreamFrame {
-            lich_idx: body[0],
-            lich_part: body[1..6].try_into().unwrap(),
-            frame_number: number16(&body[6..8]),
-            end_of_stream: body[8] != 0,
-            stream_data: body[9..25].try_into().unwrap(),
-        })),
         8 => {
             return match tnc.read_tx_frame() {
                 None => (0, vec![]),
@@ -219,7 +196,7 @@ fn apply(tnc: &mut SoftTnc, event: &[u8]) -> (u8, Vec<u8>) {
             let n = tnc.read_kiss(&mut room[..body[0] as usize]);
             return (0, room[..n].to_vec());
         }
-        k => panic!("an event of kind {k}"),
+        kind => told(tnc, kind, body),
     }
     (0, vec![])
 }

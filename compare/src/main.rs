@@ -3,8 +3,10 @@ mod cli;
 mod events;
 mod functions;
 mod generate;
+mod leaned_on;
 mod rng;
 mod stand_ins;
+mod told;
 include!(concat!(env!("OUT_DIR"), "/m17core.rs"));
 
 fn main() {

@@ -1,8 +1,9 @@
 // The event stream: `bench stream N` writes the events of N rounds, `bench events` runs the Rust's TNC over the events on standard input and prints their lines, in document 01's
 // format, as our event program does.
 use crate::modem::ModulatorFrame;
-use crate::protocol::{Frame, LsfFrame, PacketFrame, PacketFrameCounter, StreamFrame};
+use crate::protocol::PacketFrameCounter;
 use crate::tnc::SoftTnc;
+use crate::told::told;
 use std::io::{Read, Write};
 
 // A packet from the host, sent whole; its end and the clock; a packet from the air, read by the host.
@@ -85,31 +86,13 @@ pub fn events() {
         let kind = input[at];
         let body = &input[at + 1..at + 1 + body_len(kind)];
         at += 1 + body.len();
-        let mut told = (0, 0);
+        let mut printed = (0, 0);
         match kind {
-            1 => assert_eq!(tnc.write_kiss(body), 1),
-            2 => tnc.set_data_carrier_detect(body[0] != 0),
-            3 => tnc.set_now(u64::from_be_bytes(body.try_into().unwrap())),
-            4 => tnc.set_tx_end_time(u32::from_be_bytes(body.try_into().unwrap()) as usize),
-            5 => tnc.handle_frame(Frame::Lsf(LsfFrame(body.try_into().unwrap()))),
-            6 => {
-                let counter = match body[25] {
-                    b @ 128.. => PacketFrameCounter::FinalFrame { payload_len: b as usize - 128 },
-                    b => PacketFrameCounter::Frame { index: b as usize },
-                };
-                tnc.handle_frame(Frame::Packet(PacketFrame { payload: body[..25].try_into().unwrap(), counter }))
-            }
-            7 => tnc.handle_frame(Frame::Stream(StreamFrame {
-                lich_idx: body[0],
-                lich_part: body[1..6].try_into().unwrap(),
-                frame_number: u16::from_be_bytes(body[6..8].try_into().unwrap()),
-                end_of_stream: body[8] != 0,
-                stream_data: body[9..25].try_into().unwrap(),
-            })),
-            8 => told = tx(&mut tnc, &mut room),
-            _ => told = (0, tnc.read_kiss(&mut room[..body[0] as usize])),
+            8 => printed = tx(&mut tnc, &mut room),
+            9 => printed = (0, tnc.read_kiss(&mut room[..body[0] as usize])),
+            _ => told(&mut tnc, kind, body),
         }
-        line(&mut out, kind, told.0, tnc.ptt(), &room[..told.1]);
+        line(&mut out, kind, printed.0, tnc.ptt(), &room[..printed.1]);
         if out.len() > 60000 {
             std::io::stdout().write_all(&out).unwrap();
             out.clear();

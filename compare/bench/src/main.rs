@@ -1,7 +1,11 @@
 // Both sides from one driver on the same input. `bench` prints a table of medians; `bench SIDE WHAT N` runs one side N times, for whoever counts instructions; `bench stream N` and
 // `bench events` are the event stream and the Rust's event program.
 mod events;
+#[path = "../../src/leaned_on.rs"]
+mod leaned_on;
 mod stand_ins;
+#[path = "../../src/told.rs"]
+mod told;
 include!(concat!(env!("OUT_DIR"), "/m17core.rs"));
 use std::hint::black_box;
 use std::time::Instant;
