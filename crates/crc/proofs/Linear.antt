@@ -1,4 +1,4 @@
--- The CRC's step is linear over `bitXor`, so a byte's eight steps are one look-up. Assumes nothing.
+-- The CRC's step is linear over `bitXor`, so a byte's eight steps are one look-up, and two bytes' sixteen are two. Assumes nothing.
 use mathlib.Core.Path.{_≡_, refl, sym, ap, ap₂, _∙_}
 use Prim.Native.Nat.{ℕ, zero, suc, _+_, _*_, _/_, _%_, _<_}
 use native.Mathlib.Nat.{add-zero, div-add-mod', zero-lt-suc}
@@ -115,3 +115,25 @@ unfolding crcByte
 by-look-up r b =
     let e : r % 256 * 256 ≡ r * 256 % 65536 = omega arith in
     rw (top-low r b, shiftByte-xor, shiftByte-small (r % 256) (omega arith), e) (xor-comm (shiftByte (bitXor (r / 256) b * 256)) (r * 256 % 65536))
+
+-- ---- two bytes
+
+abbrev pub shiftTwice : ℕ → ℕ
+shiftTwice r = shiftByte (shiftByte r)
+
+-- the second byte meets the register's low byte at the top, so its steps are apart from those of the first
+pub by-look-ups : (r a b : ℕ) → b < 256
+    → crcByte (crcByte r a) b ≡ bitXor (shiftTwice (bitXor (r / 256) a * 256)) (shiftByte (bitXor (r % 256) b * 256))
+unfolding crcByte
+by-look-ups r a b h =
+    let top = bitXor (r / 256) a * 256 in let low = bitXor (r % 256) b in
+    let k : low < 256 = xor-lt 8 (r % 256) b (omega arith) h in
+    rw (
+      top-low r a,
+      ← shiftByte-small b h,
+      ← shiftByte-xor (bitXor top (r % 256)) b,
+      xor-assoc top (r % 256) b,
+      shiftByte-xor top low,
+      shiftByte-xor (shiftByte top) (shiftByte low),
+      shiftByte-small low k,
+    )
