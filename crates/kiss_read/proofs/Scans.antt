@@ -1,17 +1,19 @@
 -- The scans for FEND: one turn of a scan by any test, and what an index says of `afterFends` and `stretch`. Assumes nothing.
-use mathlib.Core.Path.{_≡_, refl, ap}
+use mathlib.Core.Path.{_≡_, refl, sym, ap, _∙_}
 use mathlib.Core.Bool.{Bool, true, false, not}
 use mathlib.Core.Option.{Option, none, some, Option·map}
 use mathlib.Core.Logic.{_≢_}
 use mathlib.Core.List.{List, [], _∷_, _++_}
 use Prim.Native.Nat.{ℕ, suc, _+_, _≤_, _<_, suc-le-suc}
-use native.Mathlib.Nat.{le-of-suc-le-suc, not-suc-le-zero}
+use native.Mathlib.Nat.{le-of-suc-le-suc, not-suc-le-zero, zero-add}
 use native.Mathlib.Numerals.{add-one}
 use native.Mathlib.Omega.{arith}
 use lib.ListN.{length, take, drop, getD, drop-of-length-le}
 use lib.Seq.{drop-cons}
 use borrow.Author.Tests.{eq-eqb, ne-eqb}
 use Rattle.choice.specs.Pick.{pick}
+use Rattle.blocks.specs.Block.{loaded, without}
+use Rattle.blocks.proofs.Blocks.{loaded-length, loaded-split, without-first, without-rest}
 use Rattle.kiss_escape.specs.Escape.{FEND}
 use Rattle.kiss_read.specs.Scan.{isFend, notFend, stretch, afterFends, runOf}
 
@@ -35,6 +37,18 @@ is-not b e = rw (eq-eqb b FEND e)
 
 pub not-is : (b : ℕ) → (b ≡ FEND → ⊥) → notFend b ≡ true
 not-is b f = rw (ne-eqb b FEND f)
+
+-- ---- a block of sixteen bytes without FEND, read at index i of s
+
+run-past : (t s : List ℕ) → without FEND t ≡ true → runOf notFend (t ++ s) ≡ length t + runOf notFend s
+unfolding runOf pick
+run-past [] s h = sym (zero-add (runOf notFend s))
+run-past (b ∷ t) s h = rw (not-is b (without-first FEND b t h)) (omega (arith, run-past t s (without-rest FEND b t h)))
+
+pub run-block : (s t : List ℕ) (i : ℕ) → t ≡ loaded s i → i + 16 ≤ length s → without FEND t ≡ true
+    → runOf notFend (drop i s) ≡ 16 + runOf notFend (drop (i + 16) s)
+run-block s t i e h f =
+    ap (runOf notFend) (loaded-split s t i e h) ∙ run-past t (drop (i + 16) s) f ∙ ap (λ (n : ℕ). n + runOf notFend (drop (i + 16) s)) (loaded-length s t i e h)
 
 -- ---- what the count of a scan says
 

@@ -1,4 +1,6 @@
 // Port, command and payload of a KISS frame, as m17core's kiss.rs reads them. A frame is any slice: only its own bytes are looked at.
+use blocks::load16;
+use blocks::none_of;
 use kiss_escape::FEND;
 use kiss_escape::unescape;
 ghost use mathlib.Core.Path.{_≡_};
@@ -108,11 +110,19 @@ pub fn leading_fends(s: &[u8]) -> usize
     i
 }
 
-// How many bytes stand before the first FEND, all of them where there is none.
+// How many bytes stand before the first FEND, all of them where there is none. Blocks without one are passed sixteen bytes at a time.
 pub fn to_fend(s: &[u8]) -> usize
     ensures { λ r. ⌜ r ≡ runOf notFend (now (s .entry)) ⌝ }
 {
     let mut i = 0;
+    while 16 <= s.len() - i {
+        let block = load16(s, i);
+        if none_of(block, FEND) {
+            i += 16;
+        } else {
+            break;
+        }
+    }
     while i < s.len() {
         if s[i] == FEND {
             return i;

@@ -1,15 +1,20 @@
--- Bytes moved down in a room, one after the other. Assumes nothing.
+-- Bytes moved down in a room, one after the other, and by no place. Assumes nothing.
 use mathlib.Core.Path.{_≡_, refl, sym, ap, _∙_}
 use mathlib.Core.List.{List, [], _∷_, _++_, append-assoc}
 use Prim.Native.Nat.{ℕ, suc, _+_, _≤_, _<_}
 use native.Mathlib.Numerals.{add-one}
 use native.Mathlib.Omega.{arith}
-use lib.ListN.{length, take, drop, getD, set, length-append, length-drop}
+use lib.ListN.{length, take, drop, getD, set, length-append, length-drop, take-append-drop}
 use lib.Seq.{take-suc, drop-cons, getD-drop, getD-append-add, set-at, length-take-le, append-snoc}
+use Rattle.store.specs.Room.{over}
 
 -- k bytes moved down by n places, the rest as it was
 abbrev pub moved : List ℕ → ℕ → ℕ → List ℕ
 moved s n k = take k (drop n s) ++ drop k s
+
+-- bytes moved down by no place
+pub moved-none : (s : List ℕ) (n k : ℕ) → n ≡ 0 → k ≤ length s → s ≡ over (take k (drop n s)) s
+moved-none s n k e h = rw (e, length-take-le k s h) (sym (take-append-drop k s))
 
 module _ (s : List ℕ) (n k : ℕ) (h : k + n < length s) where
   head-length : length (take k (drop n s)) ≡ k

@@ -43,6 +43,10 @@ fn move_down(dst: &mut [u8], by: usize, count: usize)
     requires { ⌜ by + count ≤ length (now dst) ⌝ }
     ensures { λ _. ⌜ now (dst .exit) ≡ over (take count (drop by (now (dst .entry)))) (now (dst .entry)) ⌝ }
 {
+    // Bytes that stand at the start stay there. Moved onto themselves they would go one by one: only a move to another place is compiled to vectors.
+    if by == 0 {
+        return;
+    }
     let mut k = 0;
     while k < count {
         dst[k] = dst[k + by];
