@@ -1,6 +1,6 @@
 // Port, command and payload of a KISS frame, as m17core's kiss.rs reads them. A frame is any slice: only its own bytes are looked at.
 use kiss_escape::FEND;
-use kiss_escape::unescape;
+use kiss_unescape::unescape;
 ghost use mathlib.Core.Path.{_≡_};
 ghost use Rattle.kiss_read.specs.Scan.{isFend, notFend, runOf};
 ghost use Rattle.kiss_read.specs.Read.{commandNumber, portRead, commandFor, commandRead, decoded};
