@@ -61,7 +61,7 @@ pub extern "C" fn iflazrud_escape(src: &[u8], dst: &mut [u8]) -> Counted
 pub extern "C" fn iflazrud_unescape(src: &[u8], dst: &mut [u8]) -> usize
     ensures { λ r. ⌜ (r, now (dst .exit)) ≡ unescaped (now (src .entry)) (now (dst .entry)) ⌝ }
 {
-    kiss_escape::unescape(src, dst)
+    kiss_unescape::unescape(src, dst)
 }
 
 #[no_mangle]

@@ -1,10 +1,13 @@
 // The special bytes of KISS and escaping, as m17core's kiss.rs has them: FEND and FESC never stand in a frame's content as themselves.
+use blocks::load16;
+use blocks::none_of;
+use blocks::store16;
 ghost use mathlib.Core.Path.{_≡_};
-ghost use Prim.Native.Nat.{_≤_};
-ghost use lib.ListN.{length};
+ghost use Prim.Native.Nat.{_+_, _≤_};
+ghost use lib.ListN.{length, drop};
+ghost use lib.Seq.{sets};
 ghost use Rattle.store.specs.Room.{over};
 ghost use Rattle.kiss_escape.specs.Escape.{esc, escaped};
-ghost use Rattle.kiss_escape.specs.Unescape.{unescaped};
 
 pub const FEND: u8 = 0xC0;
 
@@ -24,6 +27,11 @@ pub enum Escaped {
 pub fn escape(src: &[u8], dst: &mut [u8]) -> Escaped
     ensures { λ r. ⌜ (r, now (dst .exit)) ≡ escaped (now (src .entry)) (now (dst .entry)) ⌝ }
 {
+    // twice its bytes is room enough for whatever src is, so nothing is counted
+    if src.len() <= dst.len() / 2 {
+        let n = put_escaped(src, dst);
+        return Escaped::Wrote(n);
+    }
     let n = escaped_len(src);
     if dst.len() < n {
         return Escaped::NoRoom;
@@ -52,14 +60,23 @@ pub fn escaped_len(src: &[u8]) -> usize
     n
 }
 
-// Writes src, escaped, at the start of dst, which has the room for it.
-fn put_escaped(src: &[u8], dst: &mut [u8])
+// Writes src, escaped, at the start of dst, which has the room for it, and returns how many bytes that took. Sixteen bytes are done one by one before whole
+// blocks are tried again, so that bytes that are all to be escaped cost little more than without blocks.
+fn put_escaped(src: &[u8], dst: &mut [u8]) -> usize
     requires { ⌜ length (esc (now src)) ≤ length (now dst) ⌝ }
-    ensures { λ _. ⌜ now (dst .exit) ≡ over (esc (now (src .entry))) (now (dst .entry)) ⌝ }
+    ensures { λ r. ⌜ (r ≡ length (esc (now (src .entry)))) × (now (dst .exit) ≡ over (esc (now (src .entry))) (now (dst .entry))) ⌝ }
 {
     let mut i = 0;
     let mut j = 0;
+    let mut stop = 0;
     while i < src.len() {
+        if stop <= i {
+            let n = put_plain(src, i, dst, j);
+            i += n;
+            j += n;
+            stop = i + 16;
+            continue;
+        }
         let b = src[i];
         i += 1;
         if b == FEND {
@@ -75,36 +92,24 @@ fn put_escaped(src: &[u8], dst: &mut [u8])
             j += 1;
         }
     }
+    j
 }
 
-// Writes the content src, unescaped, at the start of dst, as far as both go, and returns how many bytes of dst it counted.
-pub fn unescape(src: &[u8], dst: &mut [u8]) -> usize
-    ensures { λ r. ⌜ (r, now (dst .exit)) ≡ unescaped (now (src .entry)) (now (dst .entry)) ⌝ }
+// Copies the blocks of src from index at on, as far as none of their bytes is to be escaped, into dst from index to on, and returns how many bytes that are.
+// What is then left to escape and to store is what was left before.
+fn put_plain(src: &[u8], at: usize, dst: &mut [u8], to: usize) -> usize
+    requires { ⌜ (at ≤ length (now src)) × (to + length (esc (drop at (now src))) ≤ length (now dst)) ⌝ }
+    ensures { λ r. ⌜ (at + r ≤ length (now (src .entry))) × (r + length (esc (drop (at + r) (now (src .entry)))) ≡ length (esc (drop at (now (src .entry))))) × (sets (now (dst .exit)) (to + r) (esc (drop (at + r) (now (src .entry)))) ≡ sets (now (dst .entry)) to (esc (drop at (now (src .entry))))) ⌝ }
 {
-    let mut i = 0;
-    let mut j = 0;
-    while i < src.len() {
-        let at = j;
-        if dst.len() <= at {
-            return at;
-        }
-        let b = src[i];
-        i += 1;
-        j += 1;
-        if b == FESC {
-            if src.len() <= i {
-                return at;
-            }
-            let e = src[i];
-            i += 1;
-            if e == TFEND {
-                dst[at] = FEND;
-            } else if e == TFESC {
-                dst[at] = FESC;
-            }
+    let mut n = 0;
+    while 16 <= src.len() - (at + n) {
+        let t = load16(src, at + n);
+        if none_of(t, FEND) & none_of(t, FESC) {
+            store16(t, dst, to + n);
+            n += 16;
         } else {
-            dst[at] = b;
+            return n;
         }
     }
-    j
+    n
 }

@@ -2,7 +2,7 @@
 use blocks::load16;
 use blocks::none_of;
 use kiss_escape::FEND;
-use kiss_escape::unescape;
+use kiss_unescape::unescape;
 ghost use mathlib.Core.Path.{_≡_};
 ghost use Rattle.kiss_read.specs.Scan.{isFend, notFend, runOf};
 ghost use Rattle.kiss_read.specs.Read.{commandNumber, portRead, commandFor, commandRead, decoded};

@@ -277,7 +277,7 @@ fn bytes(kind: u8, a: &[u8], room: &mut [u8]) -> Answer {
         10 => command(a),
         11 => payload(a, room),
         12 => escaped(a, room),
-        13 => given(0, kiss_escape::unescape(a, room)),
+        13 => given(0, kiss_unescape::unescape(a, room)),
         _ => given(0, kiss_escape::escaped_len(a)),
     }
 }

@@ -1,7 +1,7 @@
 -- `kiss_escape::put_escaped` meets its contract. The loop's invariant says what is left to do: storing what src from i on is escaped to, from j on, gives what storing all of it from 0 on gave at the start. Assumes nothing.
-use Prim.Native.Nat.{_+_, _-_, _≤_}
+use Prim.Native.Nat.{ℕ, _+_, _-_, _≤_}
 use mathlib.Core.Path.{_≡_, sym, ap, _∙_}
-use mathlib.Core.List.{_∷_}
+use mathlib.Core.List.{List, _∷_}
 use native.Mathlib.Omega.{arith}
 use borrow.Author.Needs.{needs}
 use lib.Seq.{sets}
@@ -13,24 +13,53 @@ use Rattle.kiss_escape.proofs.put_escaped.Statement.{statement}
 use Rattle.kiss_escape.proofs.put_escaped.Tie as tie
 
 abbrev Inv-loop : tie.InvT-loop
-Inv-loop src dst₀ i₀ j₀ dst i j =
-    (i ≤ length src) × (length dst ≡ length dst₀) × (j + length (esc (drop i src)) ≡ length (esc src)) × (sets dst j (esc (drop i src)) ≡ sets dst₀ 0 (esc src))
+Inv-loop src dst₀ i₀ j₀ stop₀ dst i j stop =
+    (i ≤ length src)
+    × (length dst ≡ length dst₀)
+    × (j + length (esc (drop i src)) ≡ length (esc src))
+    × (sets dst j (esc (drop i src)) ≡ sets dst₀ 0 (esc src))
+    × (stop ≤ length src + 16)
 
+-- a turn goes on in src, or, with blocks, at least moves the stop
 abbrev μ-loop : tie.MeasureT-loop
-μ-loop src dst₀ i₀ j₀ dst i j = length src - i
+μ-loop src dst₀ i₀ j₀ stop₀ dst i j stop = (length src - i) + (length src + 16 - stop)
+
+abbrev source : tie.At-loop Inv-loop μ-loop → List ℕ
+source l = l .before .before .before .args .src .now
 
 -- what is left to store at the head of a turn, by the byte that is read
-left-fend : (c : tie.Then1 Inv-loop μ-loop) → let l = c .before .before .before in let s = l .before .args .src .now in
-    esc (drop (l .loop .i) s) ≡ FESC ∷ TFEND ∷ esc (drop (l .loop .i + 1) s)
-left-fend c = let t = c .before .before in esc-at-fend (t .before .before .args .src .now) (t .before .loop .i) (t .loop-test .taken) (c .if1 .taken)
+left-fend : (c : tie.Then2 Inv-loop μ-loop) → let l = c .before .before .before .before in
+    esc (drop (l .loop .i) (source l)) ≡ FESC ∷ TFEND ∷ esc (drop (l .loop .i + 1) (source l))
+left-fend c = let t = c .before .before .before in let l = t .before in esc-at-fend (source l) (l .loop .i) (t .loop-test .taken) (c .if2 .taken)
 
-left-fesc : (c : tie.Then2 Inv-loop μ-loop) → let l = c .before .before .before .before in let s = l .before .args .src .now in
-    esc (drop (l .loop .i) s) ≡ FESC ∷ TFESC ∷ esc (drop (l .loop .i + 1) s)
-left-fesc c = let t = c .before .before .before in esc-at-fesc (t .before .before .args .src .now) (t .before .loop .i) (t .loop-test .taken) (c .if2 .taken)
+left-fesc : (c : tie.Then3 Inv-loop μ-loop) → let l = c .before .before .before .before .before in
+    esc (drop (l .loop .i) (source l)) ≡ FESC ∷ TFESC ∷ esc (drop (l .loop .i + 1) (source l))
+left-fesc c = let t = c .before .before .before .before in let l = t .before in esc-at-fesc (source l) (l .loop .i) (t .loop-test .taken) (c .if3 .taken)
 
-left-other : (c : tie.Else2 Inv-loop μ-loop) → let l = c .before .before .before .before in let s = l .before .args .src .now in
-    esc (drop (l .loop .i) s) ≡ getD s (l .loop .i) 0 ∷ esc (drop (l .loop .i + 1) s)
-left-other c = let t = c .before .before .before in esc-at-other (t .before .before .args .src .now) (t .before .loop .i) (t .loop-test .taken) (c .before .if1 .left) (c .if2 .left)
+left-other : (c : tie.Else3 Inv-loop μ-loop) → let l = c .before .before .before .before .before in
+    esc (drop (l .loop .i) (source l)) ≡ getD (source l) (l .loop .i) 0 ∷ esc (drop (l .loop .i + 1) (source l))
+left-other c =
+    let t = c .before .before .before .before in let l = t .before in
+    esc-at-other (source l) (l .loop .i) (t .loop-test .taken) (c .before .if2 .left) (c .if3 .left)
+
+add-i : tie.Need-add-i Inv-loop μ-loop
+add-i c = omega (arith, c .before .before .put-plain .ensures .0)
+
+add-j : tie.Need-add-j Inv-loop μ-loop
+add-j c = omega (arith, c .before .before .put-plain .ensures .1)
+
+add-stop : tie.Need-add-stop Inv-loop μ-loop
+add-stop c = omega (arith, c .before .before .put-plain .ensures .0)
+
+loop-less : tie.Need-loop-less Inv-loop μ-loop
+loop-less c = omega (arith, c .before .before .put-plain .ensures .0)
+
+-- a turn with blocks
+loop-again : tie.Need-loop-again Inv-loop μ-loop
+loop-again c =
+    let p = c .before .before in let l = p .before .before .before .before in
+    let e = p .put-plain .ensures in
+    (omega (arith, e .0), search needs, omega (arith, e .1), e .2 ∙ l .loop .inv .3, omega (arith, e .0))
 
 slice-write-dst : tie.Need-slice-write-dst Inv-loop μ-loop
 slice-write-dst c = omega (arith, ap length (left-fend c))
@@ -38,9 +67,9 @@ slice-write-dst c = omega (arith, ap length (left-fend c))
 slice-write-dst-2 : tie.Need-slice-write-dst-2 Inv-loop μ-loop
 slice-write-dst-2 c = simp length-set (omega (arith, ap length (left-fend c)))
 
-loop-again : tie.Need-loop-again Inv-loop μ-loop
-loop-again c = let l = c .before .before .before in
-    (search needs, search needs, omega (arith, ap length (left-fend c)), put-two (l .loop .dst) (l .loop .j) (left-fend c) (l .loop .inv .3))
+loop-again-2 : tie.Need-loop-again-2 Inv-loop μ-loop
+loop-again-2 c = let l = c .before .before .before .before in
+    (search needs, search needs, omega (arith, ap length (left-fend c)), put-two (l .loop .dst) (l .loop .j) (left-fend c) (l .loop .inv .3), search needs)
 
 slice-write-dst-3 : tie.Need-slice-write-dst-3 Inv-loop μ-loop
 slice-write-dst-3 c = omega (arith, ap length (left-fesc c))
@@ -48,20 +77,21 @@ slice-write-dst-3 c = omega (arith, ap length (left-fesc c))
 slice-write-dst-4 : tie.Need-slice-write-dst-4 Inv-loop μ-loop
 slice-write-dst-4 c = simp length-set (omega (arith, ap length (left-fesc c)))
 
-loop-again-2 : tie.Need-loop-again-2 Inv-loop μ-loop
-loop-again-2 c = let l = c .before .before .before .before in
-    (search needs, search needs, omega (arith, ap length (left-fesc c)), put-two (l .loop .dst) (l .loop .j) (left-fesc c) (l .loop .inv .3))
+loop-again-3 : tie.Need-loop-again-3 Inv-loop μ-loop
+loop-again-3 c = let l = c .before .before .before .before .before in
+    (search needs, search needs, omega (arith, ap length (left-fesc c)), put-two (l .loop .dst) (l .loop .j) (left-fesc c) (l .loop .inv .3), search needs)
 
 slice-write-dst-5 : tie.Need-slice-write-dst-5 Inv-loop μ-loop
 slice-write-dst-5 c = omega (arith, ap length (left-other c))
 
-loop-again-3 : tie.Need-loop-again-3 Inv-loop μ-loop
-loop-again-3 c = let l = c .before .before .before .before in
-    (search needs, search needs, omega (arith, ap length (left-other c)), put-one (l .loop .dst) (l .loop .j) (left-other c) (l .loop .inv .3))
+loop-again-4 : tie.Need-loop-again-4 Inv-loop μ-loop
+loop-again-4 c = let l = c .before .before .before .before .before in
+    (search needs, search needs, omega (arith, ap length (left-other c)), put-one (l .loop .dst) (l .loop .j) (left-other c) (l .loop .inv .3), search needs)
 
 returns : tie.Need-returns Inv-loop μ-loop
-returns c = let l = c .before in let s = l .before .args .src .now in
-    ap (sets (l .loop .dst) (l .loop .j)) (sym (esc-done s (l .loop .i) (c .loop-test .left))) ∙ l .loop .inv .3 ∙ put-front (l .before .args .dst .now) (esc s) (l .before .pre)
+returns c =
+    let l = c .before in let e = esc-done (source l) (l .loop .i) (c .loop-test .left) in let start = l .before .before .before in
+    (omega (arith, ap length e), ap (sets (l .loop .dst) (l .loop .j)) (sym e) ∙ l .loop .inv .3 ∙ put-front (start .args .dst .now) (esc (source l)) (start .pre))
 
 pub put-escaped-spec : {M : Type 1} → statement M
 put-escaped-spec =
@@ -70,6 +100,12 @@ put-escaped-spec =
     Inv-loop
     μ-loop
     (λ c. search needs)
+    (λ c κs. search needs)
+    add-i
+    add-j
+    add-stop
+    loop-less
+    loop-again
     (λ c. search needs)
     (λ c. search needs)
     slice-write-dst
@@ -77,16 +113,16 @@ put-escaped-spec =
     slice-write-dst-2
     (λ c. search needs)
     (λ c. search needs)
-    loop-again
+    loop-again-2
     slice-write-dst-3
     (λ c. search needs)
     slice-write-dst-4
     (λ c. search needs)
     (λ c. search needs)
-    loop-again-2
+    loop-again-3
     slice-write-dst-5
     (λ c. search needs)
     (λ c. search needs)
-    loop-again-3
+    loop-again-4
     (λ c. search needs)
     returns)

@@ -1,0 +1,147 @@
+-- `kiss_unescape::unescape` meets its contract. The loop's invariant says what is left to do: laying the codes of src from i on, from j on, gives what laying all of them from 0 on gave at the start. Assumes nothing.
+use Prim.Native.Nat.{ℕ, _+_, _-_, _≤_}
+use mathlib.Core.Path.{_≡_, sym, ap, _∙_}
+use mathlib.Core.List.{List, [], _∷_}
+use native.Mathlib.Omega.{arith}
+use borrow.Author.Needs.{needs}
+use lib.ListN.{length, drop, getD, length-set}
+use Rattle.kiss_escape.specs.Escape.{FEND, FESC}
+use Rattle.kiss_escape.specs.Unescape.{Code, byte, as-found, codes}
+use Rattle.kiss_unescape.specs.Lays.{lays}
+use Rattle.kiss_unescape.proofs.Steps.{codes-done, codes-at-byte, codes-at-last, codes-at-fend, codes-at-fesc, codes-at-other, lays-out, lay-byte, lay-found, all-laid}
+use Rattle.kiss_unescape.proofs.unescape.Statement.{statement}
+use Rattle.kiss_unescape.proofs.unescape.Tie as tie
+
+abbrev Inv-loop : tie.InvT-loop
+Inv-loop src dst₀ i₀ j₀ stop₀ dst i j stop =
+    (i ≤ length src)
+    × (j ≤ length dst)
+    × (length dst ≡ length dst₀)
+    × (j + length (codes (drop i src)) ≡ length (codes src))
+    × (lays dst j (codes (drop i src)) ≡ lays dst₀ 0 (codes src))
+    × (stop ≤ length src + 16)
+
+-- a turn goes on in src, or, with blocks, at least moves the stop
+abbrev μ-loop : tie.MeasureT-loop
+μ-loop src dst₀ i₀ j₀ stop₀ dst i j stop = (length src - i) + (length src + 16 - stop)
+
+-- the source and the codes that are left at the head of a turn
+abbrev source : tie.At-loop Inv-loop μ-loop → List ℕ
+source l = l .before .before .before .args .src .now
+
+abbrev left : tie.At-loop Inv-loop μ-loop → List Code
+left l = codes (drop (l .loop .i) (source l))
+
+at-fend : (c : tie.Then5 Inv-loop μ-loop) → let l = c .before .before .before .before .before .before .before .before in
+    left l ≡ byte FEND ∷ codes (drop (l .loop .i + 1 + 1) (source l))
+at-fend c =
+    let p = c .before .before in let l = p .before .before .before .before .before .before in
+    codes-at-fend (source l) (l .loop .i) (p .if4 .left) (p .before .if3 .taken) (c .if5 .taken)
+
+at-fesc : (c : tie.Then6 Inv-loop μ-loop) → let l = c .before .before .before .before .before .before .before .before .before in
+    left l ≡ byte FESC ∷ codes (drop (l .loop .i + 1 + 1) (source l))
+at-fesc c =
+    let p = c .before .before .before in let l = p .before .before .before .before .before .before in
+    codes-at-fesc (source l) (l .loop .i) (p .if4 .left) (p .before .if3 .taken) (c .if6 .taken)
+
+at-other : (c : tie.Else6 Inv-loop μ-loop) → let l = c .before .before .before .before .before .before .before .before .before in
+    left l ≡ as-found ∷ codes (drop (l .loop .i + 1 + 1) (source l))
+at-other c =
+    let p = c .before .before .before in let l = p .before .before .before .before .before .before in
+    codes-at-other (source l) (l .loop .i) (p .if4 .left) (p .before .if3 .taken) (c .before .if5 .left) (c .if6 .left)
+
+at-byte : (c : tie.Else3 Inv-loop μ-loop) → let l = c .before .before .before .before .before in
+    left l ≡ byte (getD (source l) (l .loop .i) 0) ∷ codes (drop (l .loop .i + 1) (source l))
+at-byte c =
+    let t = c .before .before .before .before in let l = t .before in
+    codes-at-byte (source l) (l .loop .i) (t .loop-test .taken) (c .if3 .left)
+
+at-last : (c : tie.Then4 Inv-loop μ-loop) → let l = c .before .before .before .before .before .before in left l ≡ []
+at-last c =
+    let t = c .before .before .before .before .before in let l = t .before in
+    codes-at-last (source l) (l .loop .i) (t .loop-test .taken) (c .before .if3 .taken) (c .if4 .taken)
+
+add-i : tie.Need-add-i Inv-loop μ-loop
+add-i c = omega (arith, c .before .before .put-plain .ensures .0)
+
+add-j : tie.Need-add-j Inv-loop μ-loop
+add-j c = omega (arith, c .before .before .put-plain .ensures .1)
+
+add-stop : tie.Need-add-stop Inv-loop μ-loop
+add-stop c = omega (arith, c .before .before .put-plain .ensures .0)
+
+loop-less : tie.Need-loop-less Inv-loop μ-loop
+loop-less c = omega (arith, c .before .before .put-plain .ensures .0)
+
+-- a turn with blocks
+loop-again : tie.Need-loop-again Inv-loop μ-loop
+loop-again c =
+    let p = c .before .before in let l = p .before .before .before .before in let e = p .put-plain .ensures in
+    (omega (arith, e .0), omega (arith, e .1), search needs, omega (arith, e .2), e .3 ∙ l .loop .inv .4, omega (arith, e .0))
+
+returns : tie.Need-returns Inv-loop μ-loop
+returns c =
+    let l = c .before .before .before in let a = l .before .before .before .args in
+    all-laid (a .src .now) (a .dst .now) (omega arith) (sym (lays-out (l .loop .dst) (l .loop .j) (left l) (c .if2 .taken)) ∙ l .loop .inv .4)
+
+returns-2 : tie.Need-returns-2 Inv-loop μ-loop
+returns-2 c =
+    let l = c .before .before .before .before .before .before in let a = l .before .before .before .args in
+    all-laid (a .src .now) (a .dst .now) (omega (arith, ap length (at-last c))) (ap (lays (l .loop .dst) (l .loop .j)) (sym (at-last c)) ∙ l .loop .inv .4)
+
+loop-again-2 : tie.Need-loop-again-2 Inv-loop μ-loop
+loop-again-2 c = let l = c .before .before .before .before .before .before .before .before in
+    (search needs, simp length-set (omega arith), search needs, omega (arith, ap length (at-fend c)), lay-byte (l .loop .dst) (l .loop .j) (at-fend c) (l .loop .inv .4), search needs)
+
+loop-again-3 : tie.Need-loop-again-3 Inv-loop μ-loop
+loop-again-3 c = let l = c .before .before .before .before .before .before .before .before .before in
+    (search needs, simp length-set (omega arith), search needs, omega (arith, ap length (at-fesc c)), lay-byte (l .loop .dst) (l .loop .j) (at-fesc c) (l .loop .inv .4), search needs)
+
+loop-again-4 : tie.Need-loop-again-4 Inv-loop μ-loop
+loop-again-4 c = let l = c .before .before .before .before .before .before .before .before .before in
+    (search needs, omega arith, search needs, omega (arith, ap length (at-other c)), lay-found (l .loop .dst) (l .loop .j) (at-other c) (l .loop .inv .4), search needs)
+
+loop-again-5 : tie.Need-loop-again-5 Inv-loop μ-loop
+loop-again-5 c = let l = c .before .before .before .before .before in
+    (search needs, simp length-set (omega arith), search needs, omega (arith, ap length (at-byte c)), lay-byte (l .loop .dst) (l .loop .j) (at-byte c) (l .loop .inv .4), search needs)
+
+returns-3 : tie.Need-returns-3 Inv-loop μ-loop
+returns-3 c =
+    let l = c .before in let e = codes-done (source l) (l .loop .i) (c .loop-test .left) in let a = l .before .before .before .args in
+    all-laid (a .src .now) (a .dst .now) (omega (arith, ap length e)) (ap (lays (l .loop .dst) (l .loop .j)) (sym e) ∙ l .loop .inv .4)
+
+pub unescape-spec : {M : Type 1} → statement M
+unescape-spec =
+    tie.close
+    (tie.spec
+    Inv-loop
+    μ-loop
+    (λ c. search needs)
+    (λ c κs. search needs)
+    add-i
+    add-j
+    add-stop
+    loop-less
+    loop-again
+    (λ c. search needs)
+    returns
+    (λ c. search needs)
+    (λ c. search needs)
+    (λ c. search needs)
+    (λ c. search needs)
+    returns-2
+    (λ c. search needs)
+    (λ c. search needs)
+    (λ c. search needs)
+    (λ c. search needs)
+    loop-again-2
+    (λ c. search needs)
+    (λ c. search needs)
+    loop-again-3
+    (λ c. search needs)
+    loop-again-4
+    (λ c. search needs)
+    (λ c. search needs)
+    loop-again-5
+    (λ c. search needs)
+    returns-3)
