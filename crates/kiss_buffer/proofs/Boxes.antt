@@ -18,7 +18,8 @@ use Rattle.kiss_buffer.specs.declared.NextAnswer.the-variants.{Frame, No
 use Rattle.kiss_buffer.specs.declared.NextFrame.{NextFrame}
 use Rattle.kiss_reader.specs.Meaning.{enclosed}
 use Rattle.kiss_reader.specs.Reader.{Reader, newReader, STORE, flush, front, isSome, next, afterNext, refused, takes, afterWrite}
-use Rattle.kiss_buffer.specs.Calls.{readerOf, bufferOf, standsFirst, soundBuffer, notWritten, writes, written, nextAnswer, found, nextFrame, frameIn}
+use Rattle.kiss_buffer.specs.Calls.{readerOf, bufferOf, soundBuffer, notWritten, writes, written, nextAnswer, found, nextFrame, frameIn}
+use Rattle.kiss_scan.specs.Front.{standsFirst}
 use Rattle.kiss_buffer.specs.Promises.{Box, newBox, afterWritten, afterNextFrame, Sound}
 use Rattle.kiss_reader.proofs.Settled.{Settled, bare, alone, fronted, settled}
 use Rattle.kiss_reader.proofs.Steps.{length-settle, length-flush, length-write}

@@ -21,7 +21,8 @@ use Rattle.kiss_buffer.specs.declared.NextAnswer.the-variants.{Frame, No
 use Rattle.kiss_buffer.specs.declared.NextFrame.{NextFrame}
 use Rattle.kiss_reader.specs.Meaning.{enclosed}
 use Rattle.kiss_reader.specs.Reader.{Reader, STORE, settle, flush, front, isSome, next, afterNext, isFull, refused, keptBack, takes, afterWrite}
-use Rattle.kiss_buffer.specs.Calls.{readerOf, bufferOf, standsFirst, soundBuffer, notWritten, writes, written, nextAnswer, notSought, found, nextFrame, orEmpty, frameIn}
+use Rattle.kiss_buffer.specs.Calls.{readerOf, bufferOf, soundBuffer, notWritten, writes, written, nextAnswer, notSought, found, nextFrame, frameIn}
+use Rattle.kiss_scan.specs.Front.{standsFirst, orEmpty}
 use Rattle.kiss_buffer.specs.Inside.{compacted, accepted}
 use Rattle.kiss_reader.specs.Inside.{settleAt}
 use Rattle.kiss_reader.proofs.Indices.{settle-at, settle-settle}

@@ -5,11 +5,9 @@ use mathlib.Core.Bool.{Bool, true}
 use mathlib.Core.Option.{Option, none, some}
 use mathlib.Core.List.{List, []}
 use lib.Dec.{leb, eqb}
-use lib.ListN.{length, take, drop, getD}
+use lib.ListN.{length, take}
 use Rattle.choice.specs.Pick.{pick, and}
 use Rattle.store.specs.Room.{over}
-use Rattle.kiss_escape.specs.Escape.{FEND}
-use Rattle.kiss_read.specs.Scan.{isFend, notFend, stretch}
 use Rattle.kiss_buffer.specs.declared.KissBuffer.{KissBuffer}
 use Rattle.kiss_buffer.specs.declared.WriteAnswer.{WriteAnswer}
 use Rattle.kiss_buffer.specs.declared.WriteAnswer.the-variants.{Done, Full, WrongStore, OutOfBounds}
@@ -17,7 +15,8 @@ use Rattle.kiss_buffer.specs.declared.Written.{Written}
 use Rattle.kiss_buffer.specs.declared.NextAnswer.{NextAnswer}
 use Rattle.kiss_buffer.specs.declared.NextAnswer.the-variants.{Frame, Nothing, WrongStore as NoStore, OutOfBounds as NoState}
 use Rattle.kiss_buffer.specs.declared.NextFrame.{NextFrame}
-use Rattle.kiss_reader.specs.Reader.{Reader, STORE, front, isSome, next, afterNext, refused, takes, afterWrite}
+use Rattle.kiss_reader.specs.Reader.{Reader, STORE, front, next, afterNext, refused, takes, afterWrite}
+use Rattle.kiss_scan.specs.Front.{standsFirst, orEmpty}
 
 -- the reader that a record and a store stand for, and the record of a reader
 abbrev pub readerOf : KissBuffer → List ℕ → Reader
@@ -25,10 +24,6 @@ readerOf b store = record { held = take (b .filled) store; taken = b .taken }
 
 abbrev pub bufferOf : Reader → KissBuffer
 bufferOf r = record { filled = length (r .held); taken = r .taken }
-
--- a frame stands first: a FEND, another byte, and a FEND behind it
-unfoldable pub standsFirst : List ℕ → Bool
-standsFirst h = and (isFend (getD h 0 0)) (and (notFend (getD h 1 FEND)) (isSome (stretch (drop 2 h))))
 
 -- filled at most 1,713, and a frame marked as taken stands first
 unfoldable pub soundBuffer : KissBuffer → List ℕ → Bool
@@ -69,10 +64,6 @@ nextFrame b store =
     (notSought NoStore b store)
 
 -- ---- frame
-
-abbrev pub orEmpty : Option (List ℕ) → List ℕ
-orEmpty none = []
-orEmpty (some f) = f
 
 -- the frame that was handed out, and no byte where none was or the call is refused
 unfoldable pub frameIn : KissBuffer → List ℕ → List ℕ

@@ -1,13 +1,13 @@
 // The reader, as m17core's KissBuffer: raw bytes in, whole frames out. What counts of them stands at the start of a store of 1,713 bytes that the caller lends.
-use kiss_escape::FEND;
-use kiss_read::leading_fends;
-use kiss_read::to_fend;
+use kiss_scan::front_len;
+use kiss_scan::holds_frame;
+use kiss_scan::settle_at;
+use kiss_scan::stands_first;
 ghost use mathlib.Core.Path.{_≡_};
 ghost use Prim.Native.Nat.{_≤_};
 ghost use lib.ListN.{length, take};
-ghost use Rattle.kiss_reader.specs.Reader.{newReader, STORE, settle, front, isSome};
-ghost use Rattle.kiss_reader.specs.Inside.{settleAt};
-ghost use Rattle.kiss_buffer.specs.Calls.{bufferOf, standsFirst, soundBuffer, written, nextFrame, orEmpty, frameIn};
+ghost use Rattle.kiss_reader.specs.Reader.{newReader, STORE};
+ghost use Rattle.kiss_buffer.specs.Calls.{bufferOf, soundBuffer, written, nextFrame, frameIn};
 ghost use Rattle.kiss_buffer.specs.Inside.{compacted, accepted};
 
 // Room for the longest frame that a builder writes: 2 * 855 bytes of content, a header and two FENDs.
@@ -196,52 +196,4 @@ fn compact(store: &mut [u8], from: usize, filled: usize) -> usize
     let at = from + settle_at(&store[from..filled]);
     store::shift(store, at, filled);
     filled - at
-}
-
-// Where the last FEND of the first run of FENDs stands; the length where there is no FEND.
-fn settle_at(h: &[u8]) -> usize
-    ensures { λ r. ⌜ r ≡ settleAt (now (h .entry)) ⌝ }
-{
-    let i = to_fend(h);
-    let run = leading_fends(&h[i..]);
-    if run == 0 {
-        return i;
-    }
-    i + run - 1
-}
-
-// The length of the frame at the front, or 0 where no FEND closes one.
-fn front_len(h: &[u8]) -> usize
-    ensures { λ r. ⌜ r ≡ length (orEmpty (front (now (h .entry)))) ⌝ }
-{
-    if h.len() == 0 {
-        return 0;
-    }
-    let n = to_fend(&h[1..]);
-    if h.len() - 1 <= n {
-        return 0;
-    }
-    n + 2
-}
-
-fn holds_frame(h: &[u8]) -> bool
-    ensures { λ r. ⌜ r ≡ isSome (front (settle (now (h .entry)))) ⌝ }
-{
-    let at = settle_at(h);
-    front_len(&h[at..]) != 0
-}
-
-fn stands_first(h: &[u8]) -> bool
-    ensures { λ r. ⌜ r ≡ standsFirst (now (h .entry)) ⌝ }
-{
-    if h.len() < 2 {
-        return false;
-    }
-    if h[0] != FEND {
-        return false;
-    }
-    if h[1] == FEND {
-        return false;
-    }
-    to_fend(&h[2..]) < h.len() - 2
 }

@@ -5,7 +5,7 @@ use Rattle.iflazrud.proofs.iflazrud_reader_write.Statement.{statement}
 use Rattle.iflazrud.proofs.iflazrud_reader_write.Tie as tie
 
 returns : tie.Need-returns
-returns c = let w = c .before .before .before .before .write in write-told (w .last .1 .1 .0) (w .ensures) (c .before .write-number .ensures)
+returns c = let w = c .before .before .before .write in write-told (w .last .1 .1 .0) (w .ensures) (c .write-count .ensures)
 
 pub iflazrud-reader-write-spec : {M : Type 1} → statement M
 iflazrud-reader-write-spec = tie.close (tie.spec (λ c κs. search needs) (λ c κs. search needs) (λ c. search needs) returns)

@@ -1,4 +1,4 @@
--- `kiss_buffer::stands_first` meets its contract. Assumes nothing.
+-- `kiss_scan::stands_first` meets its contract. Assumes nothing.
 use Prim.Native.Nat.{ℕ}
 use mathlib.Core.Path.{_≡_, sym, ap, ap₂, _∙_}
 use native.Mathlib.Omega.{arith}
@@ -6,9 +6,9 @@ use borrow.Author.Needs.{needs}
 use lib.Dec.{ltb}
 use lib.ListN.{length, drop, length-drop}
 use Rattle.kiss_read.specs.Scan.{notFend, runOf}
-use Rattle.kiss_buffer.proofs.Inner.{to-the-end, stands-short, stands-unopened, stands-empty, stands-closed}
-use Rattle.kiss_buffer.proofs.stands_first.Statement.{statement}
-use Rattle.kiss_buffer.proofs.stands_first.Tie as tie
+use Rattle.kiss_scan.proofs.Fronts.{to-the-end, stands-short, stands-unopened, stands-empty, stands-closed}
+use Rattle.kiss_scan.proofs.stands_first.Statement.{statement}
+use Rattle.kiss_scan.proofs.stands_first.Tie as tie
 
 returns : tie.Need-returns
 returns c = sym (stands-short (c .before .before .args .h .now) (c .if1 .taken))

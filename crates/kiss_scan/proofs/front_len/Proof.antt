@@ -1,13 +1,13 @@
--- `kiss_buffer::front_len` meets its contract. Assumes nothing.
+-- `kiss_scan::front_len` meets its contract. Assumes nothing.
 use Prim.Native.Nat.{ℕ, _+_}
 use mathlib.Core.Path.{_≡_, sym, ap, _∙_}
 use native.Mathlib.Omega.{arith}
 use borrow.Author.Needs.{needs}
 use lib.ListN.{length, drop, length-drop}
 use Rattle.kiss_read.specs.Scan.{notFend, runOf}
-use Rattle.kiss_buffer.proofs.Inner.{to-the-end, front-length-found, front-length-none}
-use Rattle.kiss_buffer.proofs.front_len.Statement.{statement}
-use Rattle.kiss_buffer.proofs.front_len.Tie as tie
+use Rattle.kiss_scan.proofs.Fronts.{to-the-end, front-length-found, front-length-none}
+use Rattle.kiss_scan.proofs.front_len.Statement.{statement}
+use Rattle.kiss_scan.proofs.front_len.Tie as tie
 
 -- how many bytes stand before the FEND that closes a frame
 scanned : (c : tie.After-to-fend) → c .to-fend .result ≡ runOf notFend (drop 1 (c .before .before .before .before .args .h .now))

@@ -11,9 +11,9 @@ use Rattle.kiss_buffer.specs.declared.NextAnswer.{NextAnswer}
 use Rattle.kiss_buffer.specs.declared.NextAnswer.the-variants.{Frame as Whole, Nothing, WrongStore, OutOfBounds}
 use Rattle.kiss_buffer.specs.declared.NextFrame.{NextFrame}
 use Rattle.kiss_buffer.specs.Calls.{writeNumber}
-use Rattle.iflazrud.specs.declared.Counted.{Counted}
-use Rattle.iflazrud.specs.declared.Reader.{Reader}
-use Rattle.iflazrud.specs.declared.ReaderAnswer.{ReaderAnswer}
+use Rattle.link_numbers.specs.declared.Counted.{Counted}
+use Rattle.link_numbers.specs.declared.Reader.{Reader}
+use Rattle.link_numbers.specs.declared.ReaderAnswer.{ReaderAnswer}
 
 abbrev pub counted : ℕ → ℕ → Counted
 counted number count = record { number = number; count = count }

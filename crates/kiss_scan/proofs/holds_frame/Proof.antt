@@ -1,4 +1,4 @@
--- `kiss_buffer::holds_frame` meets its contract. Assumes nothing.
+-- `kiss_scan::holds_frame` meets its contract. Assumes nothing.
 use Prim.Native.Nat.{ℕ, _≤_}
 use mathlib.Core.Bool.{not}
 use mathlib.Core.Path.{_≡_, sym, ap, _∙_}
@@ -8,11 +8,11 @@ use borrow.Author.Needs.{needs}
 use lib.Dec.{eqb}
 use lib.ListN.{length, drop}
 use Rattle.kiss_reader.specs.Reader.{settle, front, isSome}
-use Rattle.kiss_buffer.specs.Calls.{orEmpty}
+use Rattle.kiss_scan.specs.Front.{orEmpty}
 use Rattle.kiss_reader.proofs.Indices.{settle-at, settle-within}
-use Rattle.kiss_buffer.proofs.Inner.{to-the-end, front-some}
-use Rattle.kiss_buffer.proofs.holds_frame.Statement.{statement}
-use Rattle.kiss_buffer.proofs.holds_frame.Tie as tie
+use Rattle.kiss_scan.proofs.Fronts.{to-the-end, front-some}
+use Rattle.kiss_scan.proofs.holds_frame.Statement.{statement}
+use Rattle.kiss_scan.proofs.holds_frame.Tie as tie
 
 within : (c : tie.After-settle-at) → c .settle-at .result ≤ length (c .before .before .args .h .now)
 within c = omega (arith, settle-within (c .before .before .args .h .now))

@@ -1,0 +1,57 @@
+// The reader's scans, each over the bytes that count of its store: where they settle, and whether a whole frame stands first.
+use kiss_escape::FEND;
+use kiss_read::leading_fends;
+use kiss_read::to_fend;
+ghost use mathlib.Core.Path.{_≡_};
+ghost use lib.ListN.{length};
+ghost use Rattle.kiss_reader.specs.Reader.{settle, front, isSome};
+ghost use Rattle.kiss_reader.specs.Inside.{settleAt};
+ghost use Rattle.kiss_scan.specs.Front.{standsFirst, orEmpty};
+
+// Where the last FEND of the first run of FENDs stands; the length where there is no FEND.
+pub fn settle_at(h: &[u8]) -> usize
+    ensures { λ r. ⌜ r ≡ settleAt (now (h .entry)) ⌝ }
+{
+    let i = to_fend(h);
+    let run = leading_fends(&h[i..]);
+    if run == 0 {
+        return i;
+    }
+    i + run - 1
+}
+
+// The length of the frame at the front, or 0 where no FEND closes one.
+pub fn front_len(h: &[u8]) -> usize
+    ensures { λ r. ⌜ r ≡ length (orEmpty (front (now (h .entry)))) ⌝ }
+{
+    if h.len() == 0 {
+        return 0;
+    }
+    let n = to_fend(&h[1..]);
+    if h.len() - 1 <= n {
+        return 0;
+    }
+    n + 2
+}
+
+pub fn holds_frame(h: &[u8]) -> bool
+    ensures { λ r. ⌜ r ≡ isSome (front (settle (now (h .entry)))) ⌝ }
+{
+    let at = settle_at(h);
+    front_len(&h[at..]) != 0
+}
+
+pub fn stands_first(h: &[u8]) -> bool
+    ensures { λ r. ⌜ r ≡ standsFirst (now (h .entry)) ⌝ }
+{
+    if h.len() < 2 {
+        return false;
+    }
+    if h[0] != FEND {
+        return false;
+    }
+    if h[1] == FEND {
+        return false;
+    }
+    to_fend(&h[2..]) < h.len() - 2
+}
