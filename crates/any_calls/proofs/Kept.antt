@@ -25,8 +25,8 @@ use Rattle.state.specs.State.{transmits, timeReached, endingAt}
 use Rattle.tnc_air.specs.Promises.{lsf, packet}
 use Rattle.tnc_air.proofs.Kept as air
 use Rattle.tnc_stream.proofs.Kept as stream
-use Rattle.tnc_modulator.specs.declared.TxAnswer.{TxAnswer}
-use Rattle.tnc_modulator.specs.declared.TxRead.{TxRead}
+use Rattle.tx_frame.specs.declared.TxAnswer.{TxAnswer}
+use Rattle.tx_frame.specs.declared.TxRead.{TxRead}
 use Rattle.tnc_modulator.specs.Modulator.{allSound, txRead, txNumber}
 use Rattle.tnc_modulator.specs.Promises.{Box as TxBox, afterRead, readOf, Sound as TxSound}
 use Rattle.tnc_modulator.proofs.Kept as modulator

@@ -18,8 +18,8 @@ use Rattle.outgoing.specs.Message.{hostNumber}
 use Rattle.radio.specs.declared.AirAnswer.{AirAnswer}
 use Rattle.radio.specs.declared.AirAnswer.the-variants.{Done as Heard, OutOfRange as AirRange, WrongStore as AirStore, OutOfBounds as AirBounds}
 use Rattle.radio.specs.Radio.{airNumber}
-use Rattle.tnc_modulator.specs.declared.TxAnswer.{TxAnswer}
-use Rattle.tnc_modulator.specs.declared.TxAnswer.the-variants.{Nothing, Preamble, Lsf, Stream, Packet, EndOfTransmission, WrongStore, OutOfBounds}
+use Rattle.tx_frame.specs.declared.TxAnswer.{TxAnswer}
+use Rattle.tx_frame.specs.declared.TxAnswer.the-variants.{Nothing, Preamble, Lsf, Stream, Packet, EndOfTransmission, WrongStore, OutOfBounds}
 use Rattle.tnc_modulator.specs.Modulator.{kindNumber}
 use Rattle.tnc_core.specs.declared.Ptt.{Ptt}
 use Rattle.tnc_core.specs.declared.Ptt.the-variants.{Off, On, OutOfBounds as NoPtt}

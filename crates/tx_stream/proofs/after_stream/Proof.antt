@@ -1,13 +1,13 @@
--- `tnc_modulator::after_stream` meets its contract. Assumes nothing.
+-- `tx_stream::after_stream` meets its contract. Assumes nothing.
 use mathlib.Core.Bool.{Bool}
 use mathlib.Core.Path.{_≡_}
 use Rattle.choice.specs.Pick.{tests}
 use Rattle.state.specs.declared.State.{State}
 use Rattle.streams.specs.declared.StreamReadAnswer.{StreamReadAnswer}
-use Rattle.tnc_modulator.specs.Modulator.{afterStream}
+use Rattle.tx_stream.specs.Stream.{afterStream}
 use borrow.Author.Needs.{needs}
-use Rattle.tnc_modulator.proofs.after_stream.Statement.{statement}
-use Rattle.tnc_modulator.proofs.after_stream.Tie as tie
+use Rattle.tx_stream.proofs.after_stream.Statement.{statement}
+use Rattle.tx_stream.proofs.after_stream.Tie as tie
 
 -- what holds of the variant that the match found holds of the answer
 known : {a b : StreamReadAnswer} {r : State} (last : Bool) → a ≡ b → r ≡ afterStream b last → r ≡ afterStream a last

@@ -1,10 +1,10 @@
--- `tnc_modulator::begin` meets its contract. Assumes nothing.
+-- `tx_begin::begin` meets its contract. Assumes nothing.
 use mathlib.Core.Path.{_∙_}
 use Rattle.choice.specs.Pick.{not-yes, not-no}
-use Rattle.tnc_modulator.proofs.Cases.{none-waits, asked}
+use Rattle.tx_begin.proofs.Cases.{none-waits, asked}
 use borrow.Author.Needs.{needs}
-use Rattle.tnc_modulator.proofs.begin.Statement.{statement}
-use Rattle.tnc_modulator.proofs.begin.Tie as tie
+use Rattle.tx_begin.proofs.begin.Statement.{statement}
+use Rattle.tx_begin.proofs.begin.Tie as tie
 
 returns : tie.Need-returns
 returns c =

@@ -1,7 +1,7 @@
--- `tnc_modulator::unfilled` meets its contract. Assumes nothing.
+-- `tx_frame::unfilled` meets its contract. Assumes nothing.
 use borrow.Author.Needs.{needs}
-use Rattle.tnc_modulator.proofs.unfilled.Statement.{statement}
-use Rattle.tnc_modulator.proofs.unfilled.Tie as tie
+use Rattle.tx_frame.proofs.unfilled.Statement.{statement}
+use Rattle.tx_frame.proofs.unfilled.Tie as tie
 
 returns : tie.Need-returns
 returns c = rw (c .before .no-stream-frame .ensures, c .no-packet-frame .ensures)

@@ -1,8 +1,8 @@
--- `tnc_modulator::give_packet` meets its contract. Assumes nothing.
-use Rattle.tnc_modulator.specs.Modulator.{packetGiven}
+-- `tx_packet::give_packet` meets its contract. Assumes nothing.
+use Rattle.tx_packet.specs.Packet.{packetGiven}
 use borrow.Author.Needs.{needs}
-use Rattle.tnc_modulator.proofs.give_packet.Statement.{statement}
-use Rattle.tnc_modulator.proofs.give_packet.Tie as tie
+use Rattle.tx_packet.proofs.give_packet.Statement.{statement}
+use Rattle.tx_packet.proofs.give_packet.Tie as tie
 
 returns : tie.Need-returns
 unfolding packetGiven

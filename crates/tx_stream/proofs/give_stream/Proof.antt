@@ -1,8 +1,8 @@
--- `tnc_modulator::give_stream` meets its contract. Assumes nothing.
-use Rattle.tnc_modulator.specs.Modulator.{streamGiven}
+-- `tx_stream::give_stream` meets its contract. Assumes nothing.
+use Rattle.tx_stream.specs.Stream.{streamGiven}
 use borrow.Author.Needs.{needs}
-use Rattle.tnc_modulator.proofs.give_stream.Statement.{statement}
-use Rattle.tnc_modulator.proofs.give_stream.Tie as tie
+use Rattle.tx_stream.proofs.give_stream.Statement.{statement}
+use Rattle.tx_stream.proofs.give_stream.Tie as tie
 
 returns : tie.Need-returns
 unfolding streamGiven
