@@ -1,5 +1,5 @@
 -- What a read for the modulator answers, and the state, the queues and the channel after it, from document 01 under "To the modulator", "Channel access", "Answer numbers"
--- and "Bounds for 8": its kinds are `begun` of `tx_begin`, `streamGiven` of `tx_stream` and `packetGiven` of `tx_packet`. Assumes nothing.
+-- and "Bounds for 8": `begun` where nothing is being sent, `streamGiven` and `packetGiven` in a transmission. Assumes nothing.
 use Prim.Native.Nat.{ℕ}
 use mathlib.Core.Bool.{Bool}
 use mathlib.Core.List.{List}

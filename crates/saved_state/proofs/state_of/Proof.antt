@@ -1,9 +1,9 @@
--- `tnc_link::state_of` meets its contract. Assumes nothing.
+-- `saved_state::state_of` meets its contract. Assumes nothing.
 use borrow.Author.Needs.{needs}
 use Rattle.choice.specs.Pick.{pick, tests}
-use Rattle.tnc_link.specs.Saved.{stateOf}
-use Rattle.tnc_link.proofs.state_of.Statement.{statement}
-use Rattle.tnc_link.proofs.state_of.Tie as tie
+use Rattle.saved_state.specs.Numbers.{stateOf}
+use Rattle.saved_state.proofs.state_of.Statement.{statement}
+use Rattle.saved_state.proofs.state_of.Tie as tie
 
 returns : tie.Need-returns
 unfolding stateOf pick

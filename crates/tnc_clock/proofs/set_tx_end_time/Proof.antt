@@ -1,4 +1,4 @@
--- `tnc_core::Tnc::set_tx_end_time` meets its contract. Assumes nothing.
+-- `tnc_clock::set_tx_end_time` meets its contract. Assumes nothing.
 use mathlib.Core.Path.{ap, _∙_}
 use native.Mathlib.Omega.{arith}
 use borrow.Author.Needs.{needs}
@@ -6,10 +6,11 @@ use borrow.Author.Tests.{lt-leb, le-leb}
 use Rattle.choice.specs.Pick.{pick-yes, pick-no, not-yes, not-no}
 use Rattle.channel.specs.declared.ChannelAnswer.the-variants.{Done}
 use Rattle.channel.proofs.Bounds.{clock-bound}
 use Rattle.tnc_core.specs.declared.Tnc.{Tnc}
-use Rattle.tnc_core.specs.Tnc.{withState, timed, endTimeSet}
-use Rattle.tnc_core.proofs.Tnc.set_tx_end_time.Statement.{statement}
-use Rattle.tnc_core.proofs.Tnc.set_tx_end_time.Tie as tie
+use Rattle.tnc_core.specs.Tnc.{withState}
+use Rattle.tnc_clock.specs.Clock.{timed, endTimeSet}
+use Rattle.tnc_clock.proofs.set_tx_end_time.Statement.{statement}
+use Rattle.tnc_clock.proofs.set_tx_end_time.Tie as tie
 
 returns : tie.Need-returns
 unfolding endTimeSet
@@ -35,7 +36,7 @@ returns-4 c =
     pick-yes _ (not-yes (k .before .before .is-sound .ensures) (k .before .if1 .left))
     (pick-yes _ (not-yes (k .is-sound2 .ensures) (j .if2 .left))
     (pick-yes _ (le-leb _ _ (i .if3 .left))
-    (c .told-time4 .ensures ∙ ap (λ (t : Tnc). timed Done t (a .channel)) (w .with-state .ensures ∙ ap (withState (a .self)) (e .ending-at .ensures)))))
+    (c .told-time4 .ensures ∙ ap (λ (t : Tnc). timed Done t (a .channel)) (w .with-state .ensures ∙ ap (withState (a .tnc)) (e .ending-at .ensures)))))
 
 add-ending-at : tie.Need-add-ending-at
 add-ending-at c =

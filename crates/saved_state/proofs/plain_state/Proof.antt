@@ -1,7 +1,7 @@
--- `tnc_link::plain_state` meets its contract. Assumes nothing.
+-- `saved_state::plain_state` meets its contract. Assumes nothing.
 use Rattle.choice.specs.Pick.{tests}
-use Rattle.tnc_link.proofs.plain_state.Statement.{statement}
-use Rattle.tnc_link.proofs.plain_state.Tie as tie
+use Rattle.saved_state.proofs.plain_state.Statement.{statement}
+use Rattle.saved_state.proofs.plain_state.Tie as tie
 
 returns : tie.Need-returns
 returns c = search tests

@@ -1,9 +1,9 @@
--- `tnc_link::is_state` meets its contract. Assumes nothing.
+-- `saved_state::is_state` meets its contract. Assumes nothing.
 use borrow.Author.Needs.{needs}
 use Rattle.choice.specs.Pick.{pick, tests}
-use Rattle.tnc_link.specs.Saved.{validState}
-use Rattle.tnc_link.proofs.is_state.Statement.{statement}
-use Rattle.tnc_link.proofs.is_state.Tie as tie
+use Rattle.saved_state.specs.Numbers.{validState}
+use Rattle.saved_state.proofs.is_state.Statement.{statement}
+use Rattle.saved_state.proofs.is_state.Tie as tie
 
 returns : tie.Need-returns
 unfolding validState pick

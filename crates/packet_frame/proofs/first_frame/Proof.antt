@@ -1,4 +1,4 @@
--- `packet_read::first_frame` meets its contract. Assumes nothing.
+-- `packet_frame::first_frame` meets its contract. Assumes nothing.
 use mathlib.Core.Path.{_≡_, sym, _∙_}
 use native.Mathlib.Omega.{arith}
 use borrow.Author.Needs.{needs}
@@ -9,8 +9,8 @@ use Rattle.choice.specs.Pick.{pick-yes, pick-no}
 use Rattle.store.proofs.Copies.{copied-in}
 use Rattle.store.proofs.Runs.{put-all, put-front}
 use Rattle.packets.specs.Frames.{zeros, padded, chunk}
-use Rattle.packet_read.proofs.first_frame.Statement.{statement}
-use Rattle.packet_read.proofs.first_frame.Tie as tie
+use Rattle.packet_frame.proofs.first_frame.Statement.{statement}
+use Rattle.packet_frame.proofs.first_frame.Tie as tie
 
 returns : tie.Need-returns
 unfolding chunk
