@@ -10,7 +10,7 @@ use Rattle.state.specs.declared.State.the-variants.{Idle, RxAcquiringStream, Rx
 use Rattle.state.specs.State.{transmits, timeReached, endingAt}
 use Rattle.radio.specs.declared.Heard.{Heard}
 use Rattle.tnc_core.specs.declared.Tnc.{Tnc}
-use Rattle.tnc_core.specs.Tnc.{nowSet, endTimeSet}
+use Rattle.tnc_clock.specs.Clock.{nowSet, endTimeSet}
 use Rattle.tnc.specs.declared.TncWritten.{TncWritten}
 use Rattle.any_calls.specs.Calls.{World, Call, writeKiss, readKiss, handleLsf, handlePacket, handleStream, setDataCarrierDetect, setNow, setTxEndTime, ptt, readTxFrame, writes, reads, hears, lsfIn, packetIn, streamIn, after}
 use Rattle.any_calls.specs.Promises.{Sound}

@@ -39,7 +39,8 @@ use Rattle.tnc_host.specs.Promises.{Link}
 use Rattle.tnc_host.specs.Promises.{afterWrite as afterLink}
 use Rattle.tnc_host.proofs.Kept as hosts
 use Rattle.tnc_core.specs.declared.Tnc.{Tnc}
-use Rattle.tnc_core.specs.Tnc.{withState, nowSet, endTimeSet}
+use Rattle.tnc_core.specs.Tnc.{withState}
+use Rattle.tnc_clock.specs.Clock.{nowSet, endTimeSet}
 use Rattle.tnc.specs.declared.TncWritten.{TncWritten}
 use Rattle.tnc.specs.declared.TncRead.{TncRead}
 use Rattle.tnc_receive.specs.declared.TncHeard.{TncHeard}

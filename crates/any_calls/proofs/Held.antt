@@ -27,8 +27,10 @@ use Rattle.sending.specs.Sending.{wantsToSend}
 use Rattle.state.specs.declared.State.{State}
 use Rattle.state.specs.declared.State.the-variants.{Idle, RxAcquiringStream, RxStream, RxPacket, TxStream, TxStreamSentEndOfStream, TxPacket, TxEnding, TxEndingAtTime}
 use Rattle.host_frame.specs.Promises.{Box as HostBox}
-use Rattle.tnc_modulator.specs.declared.TxRead.{TxRead}
-use Rattle.tnc_modulator.specs.Modulator.{keyedUp, afterStream, streamRead, afterPacket, packetRead}
+use Rattle.tx_frame.specs.declared.TxRead.{TxRead}
+use Rattle.tx_begin.specs.Begin.{keyedUp}
+use Rattle.tx_stream.specs.Stream.{afterStream, streamRead}
+use Rattle.tx_packet.specs.Packet.{afterPacket, packetRead}
 use Rattle.tnc_modulator.proofs.Outcomes.{Passed, none-waits, held-back, keyed-up, in-stream, stream-over, in-packets, ending, sound-outcome}
 use Rattle.tnc_core.specs.declared.Tnc.{Tnc}
 use Rattle.tnc_transmit.specs.declared.TncTx.{TncTx}

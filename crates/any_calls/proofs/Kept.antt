@@ -25,18 +25,20 @@ use Rattle.state.specs.State.{transmits, timeReached, endingAt}
 use Rattle.tnc_air.specs.Promises.{lsf, packet}
 use Rattle.tnc_air.proofs.Kept as air
 use Rattle.tnc_stream.proofs.Kept as stream
-use Rattle.tnc_modulator.specs.declared.TxAnswer.{TxAnswer}
-use Rattle.tnc_modulator.specs.declared.TxRead.{TxRead}
+use Rattle.tx_frame.specs.declared.TxAnswer.{TxAnswer}
+use Rattle.tx_frame.specs.declared.TxRead.{TxRead}
 use Rattle.tnc_modulator.specs.Modulator.{allSound, txRead, txNumber}
 use Rattle.tnc_modulator.specs.Promises.{Box as TxBox, afterRead, readOf, Sound as TxSound}
 use Rattle.tnc_modulator.proofs.Kept as modulator
 use Rattle.tnc_core.specs.declared.Tnc.{Tnc}
-use Rattle.tnc_core.specs.declared.Timed.{Timed}
+use Rattle.tnc_clock.specs.declared.Timed.{Timed}
 use Rattle.tnc_core.specs.declared.Ptt.{Ptt}
-use Rattle.tnc_core.specs.Tnc.{FARTHEST, soundTnc, pttOf, withState, onClock, nowSet, endTimeSet, pttNumber}
-use Rattle.tnc_core.specs.Promises.{BothSound, Kept}
+use Rattle.tnc_core.specs.Tnc.{soundTnc, pttOf, withState, pttNumber}
+use Rattle.tnc_clock.specs.Clock.{FARTHEST, onClock, nowSet, endTimeSet}
+use Rattle.tnc_clock.specs.Promises.{BothSound, Kept}
 use Rattle.tnc_core.proofs.Bounds.{Parts, parts, joined}
 use Rattle.tnc_core.proofs.Kept as core
+use Rattle.tnc_clock.proofs.Kept as clock
 use Rattle.tnc_transmit.specs.declared.TncTx.{TncTx}
 use Rattle.tnc_transmit.specs.Calls.{notGiven, putGiven, tncTx}
 use Rattle.any_calls.specs.Calls.{World, newWorld, Call, writeKiss, readKiss, handleLsf, handlePacket, handleStream, setDataCarrierDetect, setNow, setTxEndTime, ptt, readTxFrame, hears, lsfIn, packetIn, streamIn, gives, withBoth, afterTimed, after, number, run}
@@ -196,8 +198,8 @@ refused-keeps-all w (handleLsf bytes) n = heard-refused w (lsfIn w bytes) (air.r
 refused-keeps-all w (handlePacket f) n = heard-refused w (packetIn w f) (air.refused-keeps-all (box w) (packet f)) n
 refused-keeps-all w (handleStream f) n = heard-refused w (streamIn w f) (stream.refused-keeps-all (box w) f) n
 refused-keeps-all w (setDataCarrierDetect dcd) n = ap (withBoth w (w .tnc)) (channel.refused-keeps-all (w .channel) .by-carrier dcd n)
-refused-keeps-all w (setNow samples) n = timed-kept w _ (core.refused-keeps-all (w .tnc) (w .channel) samples .0 n)
-refused-keeps-all w (setTxEndTime samples) n = timed-kept w _ (core.refused-keeps-all (w .tnc) (w .channel) samples .1 n)
+refused-keeps-all w (setNow samples) n = timed-kept w _ (clock.refused-keeps-all (w .tnc) (w .channel) samples .0 n)
+refused-keeps-all w (setTxEndTime samples) n = timed-kept w _ (clock.refused-keeps-all (w .tnc) (w .channel) samples .1 n)
 refused-keeps-all w ptt n = refl
 refused-keeps-all w readTxFrame n = given-refused w n
 
@@ -212,10 +214,10 @@ sound-stays-sound w (handleStream f) d s =
 sound-stays-sound w (setDataCarrierDetect dcd) d s =
     with-both w (w .tnc) (carrierSet (w .channel) dcd .channel) s refl (s .its-tnc) (channel.sound-stays-sound (w .channel) (s .its-channel) .by-carrier dcd)
 sound-stays-sound w (setNow samples) d s =
-    let k = core.sound-stays-sound (w .tnc) (w .channel) samples (s .its-tnc) (s .its-channel) .0 in
+    let k = clock.sound-stays-sound (w .tnc) (w .channel) samples (s .its-tnc) (s .its-channel) .0 in
     with-both w _ _ s (now-buffer (w .tnc) (w .channel) samples) (k .its-tnc) (k .its-channel)
 sound-stays-sound w (setTxEndTime samples) d s =
-    let k = core.sound-stays-sound (w .tnc) (w .channel) samples (s .its-tnc) (s .its-channel) .1 in
+    let k = clock.sound-stays-sound (w .tnc) (w .channel) samples (s .its-tnc) (s .its-channel) .1 in
     with-both w _ _ s (end-buffer (w .tnc) (w .channel) samples) (k .its-tnc) (k .its-channel)
 sound-stays-sound w ptt d s = s
 sound-stays-sound w readTxFrame d s = given-sound w s

@@ -29,9 +29,10 @@ use Rattle.streams.specs.Promises.{count, framesFrom, waiting}
 use Rattle.state.specs.declared.State.the-variants.{TxStreamSentEndOfStream, TxPacket}
 use Rattle.state.specs.declared.Transmission.{Transmission}
 use Rattle.state.specs.State.{transmissionOf}
-use Rattle.tnc_modulator.specs.declared.TxAnswer.the-variants.{EndOfTransmission}
-use Rattle.tnc_modulator.specs.declared.TxRead.{TxRead}
-use Rattle.tnc_modulator.specs.Modulator.{PACKETS, STREAMS, allSound, packetAnswer, packetGiven, packetRead, txRead, txNumber}
+use Rattle.tx_frame.specs.declared.TxAnswer.the-variants.{EndOfTransmission}
+use Rattle.tx_frame.specs.declared.TxRead.{TxRead}
+use Rattle.tx_packet.specs.Packet.{packetAnswer, packetGiven, packetRead}
+use Rattle.tnc_modulator.specs.Modulator.{PACKETS, STREAMS, allSound, txRead, txNumber}
 use Rattle.tnc_modulator.specs.Promises.{readOf, Spent, stream-spent, packets-spent}
 use Rattle.tnc_modulator.proofs.Kept as modulator
 use Rattle.tnc_modulator.proofs.Outcomes.{sound-packets}

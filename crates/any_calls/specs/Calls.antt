@@ -15,8 +15,9 @@ use Rattle.tnc_air.specs.Heard.{lsfHeard, packetHeard}
 use Rattle.tnc_stream.specs.Stream.{streamHeard}
 use Rattle.tnc_modulator.specs.Modulator.{txNumber}
 use Rattle.tnc_core.specs.declared.Tnc.{Tnc}
-use Rattle.tnc_core.specs.declared.Timed.{Timed}
-use Rattle.tnc_core.specs.Tnc.{newTnc, pttOf, nowSet, endTimeSet, pttNumber}
+use Rattle.tnc_clock.specs.declared.Timed.{Timed}
+use Rattle.tnc_core.specs.Tnc.{newTnc, pttOf, pttNumber}
+use Rattle.tnc_clock.specs.Clock.{nowSet, endTimeSet}
 use Rattle.tnc.specs.declared.TncWritten.{TncWritten}
 use Rattle.tnc.specs.declared.TncRead.{TncRead}
 use Rattle.tnc_receive.specs.declared.TncHeard.{TncHeard}

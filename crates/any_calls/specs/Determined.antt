@@ -5,9 +5,10 @@ use mathlib.Core.Path.{_≡_}
 use mathlib.Core.List.{List}
 use Rattle.channel.specs.declared.ChannelSet.{ChannelSet}
 use Rattle.channel.specs.Access.{carrierSet}
-use Rattle.tnc_core.specs.declared.Timed.{Timed}
+use Rattle.tnc_clock.specs.declared.Timed.{Timed}
 use Rattle.tnc_core.specs.declared.Ptt.{Ptt}
-use Rattle.tnc_core.specs.Tnc.{pttOf, nowSet, endTimeSet}
+use Rattle.tnc_core.specs.Tnc.{pttOf}
+use Rattle.tnc_clock.specs.Clock.{nowSet, endTimeSet}
 use Rattle.tnc.specs.declared.TncWritten.{TncWritten}
 use Rattle.tnc.specs.declared.TncRead.{TncRead}
 use Rattle.tnc_receive.specs.declared.TncHeard.{TncHeard}

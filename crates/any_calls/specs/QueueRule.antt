@@ -13,7 +13,7 @@ use Rattle.packets.specs.Queue.{STORE as PACKETS}
 use Rattle.streams.specs.Queue.{STORE as STREAMS}
 use Rattle.state.specs.declared.State.the-variants.{TxPacket}
 use Rattle.radio.specs.Radio.{RX, MESSAGE}
-use Rattle.tnc_modulator.specs.declared.TxAnswer.the-variants.{EndOfTransmission}
+use Rattle.tx_frame.specs.declared.TxAnswer.the-variants.{EndOfTransmission}
 use Rattle.tnc_core.specs.Tnc.{newTnc}
 use Rattle.any_calls.specs.Calls.{World, Call, readTxFrame, gives, number, run}
 use Rattle.any_calls.specs.Promises.{Typed, AllTyped}

@@ -23,8 +23,8 @@ use Rattle.state.specs.declared.Transmission.the-variants.{Receiving, Stream as
 use Rattle.state.specs.State.{transmissionOf}
 use Rattle.host_frame.specs.Promises.{Box as HostBox, after as afterFrame}
 use Rattle.tnc_host.specs.Bytes.{readerBox, hostBox, framesHeld}
-use Rattle.tnc_modulator.specs.declared.TxAnswer.{TxAnswer}
-use Rattle.tnc_modulator.specs.declared.TxAnswer.the-variants.{Nothing, Preamble, Lsf, Stream, Packet as Piece, EndOfTransmission, WrongStore, OutOfBounds}
+use Rattle.tx_frame.specs.declared.TxAnswer.{TxAnswer}
+use Rattle.tx_frame.specs.declared.TxAnswer.the-variants.{Nothing, Preamble, Lsf, Stream, Packet as Piece, EndOfTransmission, WrongStore, OutOfBounds}
 use Rattle.tnc_transmit.specs.declared.TncTx.{TncTx}
 use Rattle.any_calls.specs.Calls.{World, Call, writeKiss, readKiss, handleLsf, handlePacket, handleStream, setDataCarrierDetect, setNow, setTxEndTime, ptt, readTxFrame, writes, gives, after}
 

@@ -18,12 +18,13 @@ use Rattle.outgoing.specs.Message.{hostNumber}
 use Rattle.radio.specs.declared.AirAnswer.{AirAnswer}
 use Rattle.radio.specs.declared.AirAnswer.the-variants.{Done as Heard, OutOfRange as AirRange, WrongStore as AirStore, OutOfBounds as AirBounds}
 use Rattle.radio.specs.Radio.{airNumber}
-use Rattle.tnc_modulator.specs.declared.TxAnswer.{TxAnswer}
-use Rattle.tnc_modulator.specs.declared.TxAnswer.the-variants.{Nothing, Preamble, Lsf, Stream, Packet, EndOfTransmission, WrongStore, OutOfBounds}
+use Rattle.tx_frame.specs.declared.TxAnswer.{TxAnswer}
+use Rattle.tx_frame.specs.declared.TxAnswer.the-variants.{Nothing, Preamble, Lsf, Stream, Packet, EndOfTransmission, WrongStore, OutOfBounds}
 use Rattle.tnc_modulator.specs.Modulator.{kindNumber}
 use Rattle.tnc_core.specs.declared.Ptt.{Ptt}
 use Rattle.tnc_core.specs.declared.Ptt.the-variants.{Off, On, OutOfBounds as NoPtt}
-use Rattle.tnc_core.specs.Tnc.{pttOf, pttNumber, nowSet, endTimeSet}
+use Rattle.tnc_core.specs.Tnc.{pttOf, pttNumber}
+use Rattle.tnc_clock.specs.Clock.{nowSet, endTimeSet}
 use Rattle.any_calls.specs.Calls.{World, Call, writeKiss, readKiss, handleLsf, handlePacket, handleStream, setDataCarrierDetect, setNow, setTxEndTime, ptt, readTxFrame, writes, reads, hears, lsfIn, packetIn, streamIn, gives, number}
 use Rattle.event_line.specs.Line.{lineOf}
 use Rattle.event_line.proofs.Lines.{line-most}

@@ -14,7 +14,7 @@ use Rattle.channel.specs.Access.{setNumber}
 use Rattle.kiss_buffer.specs.Calls.{writeNumber}
 use Rattle.outgoing.specs.Message.{hostNumber}
 use Rattle.tnc_core.specs.declared.Tnc.{Tnc}
-use Rattle.tnc_core.specs.declared.Timed.{Timed}
+use Rattle.tnc_clock.specs.declared.Timed.{Timed}
 use Rattle.tnc.specs.declared.TncWritten.{TncWritten}
 use Rattle.tnc.specs.declared.TncRead.{TncRead}
 use Rattle.event_call.specs.declared.Applied.{Applied}

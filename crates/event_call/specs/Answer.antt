@@ -12,7 +12,7 @@ use Rattle.outgoing.specs.Message.{hostNumber}
 use Rattle.tnc_core.specs.declared.Tnc.{Tnc}
 use Rattle.tnc_core.specs.declared.Ptt.{Ptt}
 use Rattle.tnc_core.specs.declared.Ptt.the-variants.{Off, On, OutOfBounds as NoPtt}
-use Rattle.tnc_core.specs.declared.Timed.{Timed}
+use Rattle.tnc_clock.specs.declared.Timed.{Timed}
 use Rattle.tnc_core.specs.Tnc.{pttOf}
 use Rattle.tnc.specs.declared.TncWritten.{TncWritten}
 use Rattle.tnc.specs.declared.TncRead.{TncRead}

@@ -14,7 +14,7 @@ ghost use Rattle.choice.specs.Pick.{pick};
 ghost use Rattle.channel.specs.Access.{carrierSet, setNumber};
 ghost use Rattle.kiss_buffer.specs.Calls.{writeNumber};
 ghost use Rattle.outgoing.specs.Message.{hostNumber};
-ghost use Rattle.tnc_core.specs.Tnc.{nowSet, endTimeSet};
+ghost use Rattle.tnc_clock.specs.Clock.{nowSet, endTimeSet};
 ghost use Rattle.tnc.specs.Calls.{tncWritten, tncRead};
 ghost use Rattle.event_frame.specs.Numbers.{fourBytes, eightBytes};
 ghost use Rattle.event_call.specs.Answer.{MOST, onFlag, answered, refused, ofWrite, ofSet, ofTimed, ofRead};
@@ -127,7 +127,7 @@ pub fn clock(before: EventBox, body: &[u8]) -> Applied
     let channel = before.channel;
     let mut eight = [0u8; 8];
     store::copy_in(body, &mut eight, 0);
-    let set = tnc.set_now(channel, event_frame::clock(eight));
+    let set = tnc_clock::set_now(tnc, channel, event_frame::clock(eight));
     let given = set.answer;
     let tnc_after = set.tnc;
     let channel_after = set.channel;
@@ -144,7 +144,7 @@ pub fn end_time(before: EventBox, body: &[u8]) -> Applied
     let channel = before.channel;
     let mut four = [0u8; 4];
     store::copy_in(body, &mut four, 0);
-    let set = tnc.set_tx_end_time(channel, event_frame::end_time(four));
+    let set = tnc_clock::set_tx_end_time(tnc, channel, event_frame::end_time(four));
     let given = set.answer;
     let tnc_after = set.tnc;
     let channel_after = set.channel;

@@ -9,7 +9,7 @@ use Rattle.store.specs.Room.{over}
 use Rattle.store.proofs.Runs.{put-front}
 use Rattle.channel.specs.declared.Channel.{Channel}
 use Rattle.radio.specs.Radio.{airNumber}
-use Rattle.tnc_modulator.specs.declared.TxAnswer.{TxAnswer}
+use Rattle.tx_frame.specs.declared.TxAnswer.{TxAnswer}
 use Rattle.tnc_modulator.specs.Modulator.{kindNumber}
 use Rattle.tnc_receive.specs.declared.TncHeard.{TncHeard}
 use Rattle.tnc_transmit.specs.declared.TncTx.{TncTx}

@@ -6,8 +6,8 @@ use Rattle.store.specs.Room.{over}
 use Rattle.channel.specs.declared.Channel.{Channel}
 use Rattle.radio.specs.Radio.{airNumber}
 use Rattle.streams.specs.Layout.{bytesOf}
-use Rattle.tnc_modulator.specs.declared.TxAnswer.{TxAnswer}
-use Rattle.tnc_modulator.specs.declared.TxAnswer.the-variants.{Nothing, Preamble, Lsf, Stream, Packet, EndOfTransmission, WrongStore, OutOfBounds}
+use Rattle.tx_frame.specs.declared.TxAnswer.{TxAnswer}
+use Rattle.tx_frame.specs.declared.TxAnswer.the-variants.{Nothing, Preamble, Lsf, Stream, Packet, EndOfTransmission, WrongStore, OutOfBounds}
 use Rattle.tnc_modulator.specs.Modulator.{kindNumber}
 use Rattle.tnc_receive.specs.declared.TncHeard.{TncHeard}
 use Rattle.tnc_transmit.specs.declared.TncTx.{TncTx}

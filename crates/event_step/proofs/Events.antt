@@ -12,7 +12,7 @@ use Rattle.channel.specs.Access.{carrierSet}
 use Rattle.streams.specs.Layout.{frameOf}
 use Rattle.tnc_air.specs.Heard.{lsfHeard, packetHeard}
 use Rattle.tnc_stream.specs.Stream.{streamHeard}
-use Rattle.tnc_core.specs.Tnc.{nowSet, endTimeSet}
+use Rattle.tnc_clock.specs.Clock.{nowSet, endTimeSet}
 use Rattle.tnc.specs.Calls.{tncWritten, tncRead}
 use Rattle.tnc_receive.specs.Calls.{airHeard}
 use Rattle.tnc_transmit.specs.Calls.{tncTx}

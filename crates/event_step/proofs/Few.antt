@@ -31,10 +31,14 @@ use Rattle.state.specs.declared.Transmission.{Transmission}
 use Rattle.state.specs.declared.Transmission.the-variants.{Receiving, Stream as InStream, StreamSent, Packet as InPacket, Ending}
 use Rattle.state.specs.State.{transmissionOf}
 use Rattle.sending.specs.declared.Sending.{Sending}
-use Rattle.tnc_modulator.specs.declared.TxAnswer.{TxAnswer}
-use Rattle.tnc_modulator.specs.declared.TxAnswer.the-variants.{Nothing, Preamble, Lsf, Stream, Packet, EndOfTransmission, WrongStore, OutOfBounds}
-use Rattle.tnc_modulator.specs.declared.TxRead.{TxRead}
-use Rattle.tnc_modulator.specs.Modulator.{unfilled, keyedUp, allowed, begun, streamGiven, packetGiven, given, txRead}
+use Rattle.tx_frame.specs.declared.TxAnswer.{TxAnswer}
+use Rattle.tx_frame.specs.declared.TxAnswer.the-variants.{Nothing, Preamble, Lsf, Stream, Packet, EndOfTransmission, WrongStore, OutOfBounds}
+use Rattle.tx_frame.specs.declared.TxRead.{TxRead}
+use Rattle.tx_frame.specs.Frame.{unfilled}
+use Rattle.tx_begin.specs.Begin.{keyedUp, allowed, begun}
+use Rattle.tx_stream.specs.Stream.{streamGiven}
+use Rattle.tx_packet.specs.Packet.{packetGiven}
+use Rattle.tnc_modulator.specs.Modulator.{given, txRead}
 use Rattle.tnc.specs.declared.TncRead.{TncRead}
 use Rattle.tnc_transmit.specs.declared.TncTx.{TncTx}
 use Rattle.tnc.specs.Calls.{tncRead}

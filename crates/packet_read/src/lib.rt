@@ -1,4 +1,5 @@
 // The reads of the packet queue, behind `packets`, which has the record and the definitions: the packets that wait are cut into frames.
+use packet_frame::first_frame;
 use packets::PacketQueue;
 use packets::PacketRead;
 use packets::ROOM_LEN;
@@ -10,7 +11,6 @@ use protocol::PacketFrameCounter;
 ghost use mathlib.Core.Path.{_≡_};
 ghost use mathlib.Core.Bool.{true};
 ghost use lib.ListN.{length};
-ghost use Rattle.packets.specs.Frames.{chunk};
 ghost use Rattle.packets.specs.Queue.{STORE, soundQueue, lsfRead, dataRead, walk, notRead, readNext};
 
 // A read in a packet transmission: the next frame of the packets that wait, or the end once all of them are spent.
@@ -119,26 +119,5 @@ fn not_read(queue: PacketQueue, answer: ReadAnswer) -> PacketRead
             counter: PacketFrameCounter::Frame { index: 0 },
         },
         queue: queue,
-    }
-}
-
-// The first frame of a packet's data, or of what is left of it, where its index is the one given: 25 bytes, or as the final frame all of them.
-fn first_frame(bytes: &[u8], index: usize) -> PacketFrame
-    ensures { λ r. ⌜ r ≡ chunk index (now (bytes .entry)) ⌝ }
-{
-    let mut payload = [0u8; 25];
-    if 25 < bytes.len() {
-        store::copy_in(&bytes[..25], &mut payload, 0);
-        return PacketFrame {
-            payload: payload,
-            counter: PacketFrameCounter::Frame { index: index },
-        };
-    }
-    store::copy_in(bytes, &mut payload, 0);
-    PacketFrame {
-        payload: payload,
-        counter: PacketFrameCounter::FinalFrame {
-            payload_len: bytes.len(),
-        },
     }
 }

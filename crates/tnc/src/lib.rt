@@ -1,6 +1,6 @@
 // The TNC's calls of the host, with the names of m17core's SoftTnc. `Tnc` and `Channel` go in by value and come back in the answer; the large bytes stand in stores that the
-// caller lends. Frames from the air are taken by `tnc_receive`, those for the modulator given by `tnc_transmit`; new, ptt, set_now and set_tx_end_time are calls of `Tnc`,
-// set_data_carrier_detect one of `Channel`.
+// caller lends. Frames from the air are taken by `tnc_receive`, those for the modulator given by `tnc_transmit`; set_now and set_tx_end_time are calls of
+// `tnc_clock`, new and ptt of `Tnc`, set_data_carrier_detect one of `Channel`.
 use channel::Channel;
 use host_frame::Host;
 use host_frame::PACKET_STORE_LEN;

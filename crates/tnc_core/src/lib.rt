@@ -1,7 +1,4 @@
-// The TNC's record, as m17core's SoftTnc but for its large bytes and its channel, which stand in stores and a record of the caller's; its bounds, and the calls that tell
-// it the time.
-use channel::Channel;
-use channel::ChannelAnswer;
+// The TNC's record, as m17core's SoftTnc but for its large bytes and its channel, which stand in stores and a record of the caller's; and its bounds.
 use kiss_buffer::KissBuffer;
 use kiss_buffer::MAX_FRAME_LEN;
 use outgoing::Outgoing;
@@ -9,7 +6,7 @@ use radio::Radio;
 use sending::Sending;
 use state::State;
 ghost use mathlib.Core.Path.{_≡_};
-ghost use Rattle.tnc_core.specs.Tnc.{newTnc, soundTnc, pttOf, withRadio, withState, timed, nowSet, endTimeSet};
+ghost use Rattle.tnc_core.specs.Tnc.{newTnc, soundTnc, pttOf, withRadio};
 
 pub struct Tnc {
     // The reader of the host's bytes.
@@ -25,15 +22,6 @@ pub enum Ptt {
     On,
     OutOfBounds,
 }
-
-pub struct Timed {
-    pub answer: ChannelAnswer,
-    pub tnc: Tnc,
-    pub channel: Channel,
-}
-
-// The farthest end that a modulator may announce, in samples.
-const FARTHEST: u64 = 4294967296;
 
 impl Tnc {
     pub fn new() -> Self
@@ -96,66 +84,5 @@ impl Tnc {
         self.radio = radio;
         self.ptt = state.ptt();
         self
-    }
-
-    fn with_state(self, state: State) -> Self
-        ensures { λ r. ⌜ r ≡ withState self state ⌝ }
-    {
-        let before = self.radio;
-        let outgoing = before.outgoing;
-        self.with_radio(Radio {
-            state: state,
-            outgoing: outgoing,
-        })
-    }
-
-    pub fn set_now(self, channel: Channel, now_samples: u64) -> Timed
-        ensures { λ r. ⌜ r ≡ nowSet self channel «now_samples» ⌝ }
-    {
-        if !self.is_sound() {
-            return told_time(ChannelAnswer::OutOfBounds, self, channel);
-        }
-        let set = channel.set_now(now_samples);
-        let after = set.channel;
-        let answer = set.answer;
-        match answer {
-            ChannelAnswer::OutOfRange => told_time(ChannelAnswer::OutOfRange, self, after),
-            ChannelAnswer::OutOfBounds => told_time(ChannelAnswer::OutOfBounds, self, after),
-            ChannelAnswer::Done => {
-                let radio = self.radio;
-                let state = radio.state;
-                let reached = state.at_time(now_samples);
-                told_time(ChannelAnswer::Done, self.with_state(reached), after)
-            }
-        }
-    }
-
-    // The modulator has said in how many samples it will be done. It counts only in the ending state.
-    pub fn set_tx_end_time(self, channel: Channel, in_samples: u64) -> Timed
-        ensures { λ r. ⌜ r ≡ endTimeSet self channel «in_samples» ⌝ }
-    {
-        if !self.is_sound() {
-            return told_time(ChannelAnswer::OutOfBounds, self, channel);
-        }
-        if !channel.is_sound() {
-            return told_time(ChannelAnswer::OutOfBounds, self, channel);
-        }
-        if FARTHEST < in_samples {
-            return told_time(ChannelAnswer::OutOfRange, self, channel);
-        }
-        let radio = self.radio;
-        let state = radio.state;
-        let ending = state.ending_at(channel.clock + in_samples);
-        told_time(ChannelAnswer::Done, self.with_state(ending), channel)
-    }
-}
-
-fn told_time(answer: ChannelAnswer, tnc: Tnc, channel: Channel) -> Timed
-    ensures { λ r. ⌜ r ≡ timed answer tnc channel ⌝ }
-{
-    Timed {
-        answer: answer,
-        tnc: tnc,
-        channel: channel,
     }
 }

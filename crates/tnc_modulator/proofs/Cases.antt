@@ -6,32 +6,14 @@ use mathlib.Core.Path.{_≡_, sym, ap, _∙_}
 use borrow.Author.Tests.{eq-eqb, ne-eqb}
 use lib.ListN.{length}
 use Rattle.choice.specs.Pick.{pick, and}
-use Rattle.channel.specs.declared.Accessed.{Accessed}
-use Rattle.channel.specs.declared.AccessAnswer.{AccessAnswer}
 use Rattle.channel.specs.declared.Channel.{Channel}
-use Rattle.channel.specs.Access.{accessed}
 use Rattle.state.specs.declared.State.{State}
 use Rattle.state.specs.declared.Transmission.{Transmission}
 use Rattle.state.specs.State.{transmissionOf}
 use Rattle.sending.specs.declared.Sending.{Sending}
-use Rattle.sending.specs.Sending.{wantsToSend}
-use Rattle.tnc_modulator.specs.declared.TxAnswer.the-variants.{Nothing, WrongStore, OutOfBounds}
-use Rattle.tnc_modulator.specs.Modulator.{PACKETS, STREAMS, allSound, unfilled, allowed, begun, given, txRead}
-
--- ---- nothing is being sent
-
-module _ (state : State) (sending : Sending) (channel : Channel) where
-  pub none-waits : wantsToSend sending ≡ false → unfilled Nothing state sending channel ≡ begun state sending channel
-  unfolding begun pick
-  none-waits e = rw e
-
-  pub asked : wantsToSend sending ≡ true → {r : Accessed} → r ≡ accessed channel → {a : AccessAnswer} → r .answer ≡ a
-      → allowed a state sending (r .channel) ≡ begun state sending channel
-  unfolding begun pick
-  asked e {r} f g =
-      ap (λ (x : AccessAnswer). allowed x state sending (r .channel)) (sym g) ∙ ap (λ (x : Accessed). allowed (x .answer) state sending (x .channel)) f ∙ rw e
-
--- ---- any read
+use Rattle.tx_frame.specs.declared.TxAnswer.the-variants.{WrongStore, OutOfBounds}
+use Rattle.tx_frame.specs.Frame.{unfilled}
+use Rattle.tnc_modulator.specs.Modulator.{PACKETS, STREAMS, allSound, given, txRead}
 
 module _ (state : State) (sending : Sending) (channel : Channel) (packets streams : List ℕ) where
   pub packets-wrong : (length packets ≡ PACKETS → ⊥) → unfilled WrongStore state sending channel ≡ txRead state sending channel packets streams

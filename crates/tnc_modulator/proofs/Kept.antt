@@ -30,10 +30,13 @@ use Rattle.streams.proofs.Outcomes.{nothing, no-store, no-state, Read, silent, 
 use Rattle.streams.proofs.Kept.{sound-stays-sound as streams-sound}
 use Rattle.sending.specs.declared.Sending.{Sending}
 use Rattle.sending.specs.Sending.{soundSending, wantsToSend}
-use Rattle.tnc_modulator.specs.declared.TxAnswer.{TxAnswer}
-use Rattle.tnc_modulator.specs.declared.TxAnswer.the-variants.{Nothing, Preamble, Stream, EndOfTransmission}
-use Rattle.tnc_modulator.specs.declared.TxRead.{TxRead}
-use Rattle.tnc_modulator.specs.Modulator.{allSound, keyedUp, streamAnswer, afterStream, withStreams, streamRead, streamGiven, packetAnswer, afterPacket, withPackets, packetRead, given, txNumber, kindNumber}
+use Rattle.tx_frame.specs.declared.TxAnswer.{TxAnswer}
+use Rattle.tx_frame.specs.declared.TxAnswer.the-variants.{Nothing, Preamble, Stream, EndOfTransmission}
+use Rattle.tx_frame.specs.declared.TxRead.{TxRead}
+use Rattle.tx_begin.specs.Begin.{keyedUp}
+use Rattle.tx_stream.specs.Stream.{streamAnswer, afterStream, withStreams, streamRead, streamGiven}
+use Rattle.tx_packet.specs.Packet.{packetAnswer, afterPacket, withPackets, packetRead}
+use Rattle.tnc_modulator.specs.Modulator.{allSound, given, txNumber, kindNumber}
 use Rattle.tnc_modulator.specs.Promises.{Box, readOf, afterwards, afterRead, RefusedKeepsAll, Sound, SoundIsAnswered, SoundStaysSound, PttFollows, PreambleHasTheDelay, CarrierHoldsBack, KeysUp, NothingToSendKeysNothing, LsfBeforePackets, PacketsBegin, Spent, stream-spent, packets-spent, EndOnlyWhenSpent, EndAfterTheLast, NothingAfterTheEnd, QueuesStand, only, UnusedIsZero}
 use Rattle.tnc_modulator.proofs.Cases.{passed as tested}
 use Rattle.tnc_modulator.proofs.Outcomes.{sound-state, sound-sending, sound-packets, sound-streams, sound-channel, Passed, none-waits, held-back, keyed-up, in-stream, stream-over, in-packets, ending, Refusal, wrong-store, out-of-bounds, Given, refused, passed, sound-outcome, outcome}

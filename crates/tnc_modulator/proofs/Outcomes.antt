@@ -19,10 +19,14 @@ use Rattle.packets.specs.Queue.{soundQueue as soundPackets, readNext as nextPie
 use Rattle.streams.specs.Queue.{soundQueue as soundStreams, readNext as nextFrame, readNumber as frameNumber}
 use Rattle.sending.specs.declared.Sending.{Sending}
 use Rattle.sending.specs.Sending.{soundSending, wantsToSend}
-use Rattle.tnc_modulator.specs.declared.TxAnswer.{TxAnswer}
-use Rattle.tnc_modulator.specs.declared.TxAnswer.the-variants.{Nothing, EndOfTransmission, WrongStore, OutOfBounds}
-use Rattle.tnc_modulator.specs.declared.TxRead.{TxRead}
-use Rattle.tnc_modulator.specs.Modulator.{PACKETS, STREAMS, allSound, unfilled, keyedUp, allowed, begun, streamRead, streamGiven, packetRead, packetGiven, given, txRead}
+use Rattle.tx_frame.specs.declared.TxAnswer.{TxAnswer}
+use Rattle.tx_frame.specs.declared.TxAnswer.the-variants.{Nothing, EndOfTransmission, WrongStore, OutOfBounds}
+use Rattle.tx_frame.specs.declared.TxRead.{TxRead}
+use Rattle.tx_frame.specs.Frame.{unfilled}
+use Rattle.tx_begin.specs.Begin.{keyedUp, allowed, begun}
+use Rattle.tx_stream.specs.Stream.{streamRead, streamGiven}
+use Rattle.tx_packet.specs.Packet.{packetRead, packetGiven}
+use Rattle.tnc_modulator.specs.Modulator.{PACKETS, STREAMS, allSound, given, txRead}
 use Rattle.tnc_modulator.proofs.Callees.{access-answered, stream-answered, packets-answered}
 
 -- what is within bounds

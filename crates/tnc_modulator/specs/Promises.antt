@@ -19,9 +19,9 @@ use Rattle.packets.specs.Queue.{isEmpty, noFrame as noPiece, readNext as nextPi
 use Rattle.streams.specs.Queue.{noLsf, noFrame}
 use Rattle.sending.specs.declared.Sending.{Sending}
 use Rattle.sending.specs.Sending.{wantsToSend}
-use Rattle.tnc_modulator.specs.declared.TxAnswer.{TxAnswer}
-use Rattle.tnc_modulator.specs.declared.TxAnswer.the-variants.{Nothing, Preamble, Lsf, Stream, Packet, EndOfTransmission, WrongStore, OutOfBounds}
-use Rattle.tnc_modulator.specs.declared.TxRead.{TxRead}
+use Rattle.tx_frame.specs.declared.TxAnswer.{TxAnswer}
+use Rattle.tx_frame.specs.declared.TxAnswer.the-variants.{Nothing, Preamble, Lsf, Stream, Packet, EndOfTransmission, WrongStore, OutOfBounds}
+use Rattle.tx_frame.specs.declared.TxRead.{TxRead}
 use Rattle.tnc_modulator.specs.Modulator.{PACKETS, STREAMS, allSound, txRead, txNumber}
 
 -- what a read is given: the records and their stores, as the last call left them

@@ -9,9 +9,9 @@ use Rattle.channel.specs.declared.Channel.{Channel}
 use Rattle.packets.specs.Queue.{STORE as PACKETS, noFrame as noPiece}
 use Rattle.streams.specs.Queue.{STORE as STREAMS, noLsf, noFrame}
 use Rattle.state.specs.State.{transmits}
-use Rattle.tnc_modulator.specs.declared.TxAnswer.{TxAnswer}
-use Rattle.tnc_modulator.specs.declared.TxAnswer.the-variants.{WrongStore as NoTxStore, OutOfBounds as NoTxState}
-use Rattle.tnc_modulator.specs.declared.TxRead.{TxRead}
+use Rattle.tx_frame.specs.declared.TxAnswer.{TxAnswer}
+use Rattle.tx_frame.specs.declared.TxAnswer.the-variants.{WrongStore as NoTxStore, OutOfBounds as NoTxState}
+use Rattle.tx_frame.specs.declared.TxRead.{TxRead}
 use Rattle.tnc_modulator.specs.Modulator.{txRead}
 use Rattle.tnc_core.specs.declared.Tnc.{Tnc}
 use Rattle.tnc_core.specs.Tnc.{soundTnc}

@@ -4,15 +4,14 @@ use host_frame::PACKET_STORE_LEN;
 use host_frame::STREAM_STORE_LEN;
 use protocol::LsfFrame;
 use protocol::PacketFrame;
-use protocol::PacketFrameCounter;
 use protocol::StreamFrame;
 use radio::Radio;
 use tnc_core::Tnc;
-use tnc_modulator::TxAnswer;
-use tnc_modulator::TxRead;
+use tx_frame::TxAnswer;
+use tx_frame::TxRead;
+use tx_frame::no_packet_frame;
+use tx_frame::no_stream_frame;
 ghost use mathlib.Core.Path.{_≡_};
-ghost use Rattle.packets.specs.Queue.{noFrame as noPiece};
-ghost use Rattle.streams.specs.Queue.{noFrame};
 ghost use Rattle.tnc_transmit.specs.Calls.{notGiven, putGiven, tncTx};
 
 // The frame's kind is the answer. What that kind does not use is zero.
@@ -86,23 +85,8 @@ fn not_given(answer: TxAnswer, tnc: Tnc, channel: Channel) -> TncTx
         tx_delay: 0,
         lsf: LsfFrame([0u8; 30]),
         stream: no_stream_frame(),
-        packet: PacketFrame {
-            payload: [0u8; 25],
-            counter: PacketFrameCounter::Frame { index: 0 },
-        },
+        packet: no_packet_frame(),
         tnc: tnc,
         channel: channel,
-    }
-}
-
-fn no_stream_frame() -> StreamFrame
-    ensures { λ r. ⌜ r ≡ noFrame ⌝ }
-{
-    StreamFrame {
-        lich_idx: 0,
-        lich_part: [0u8; 5],
-        frame_number: 0,
-        end_of_stream: false,
-        stream_data: [0u8; 16],
     }
 }

@@ -7,7 +7,7 @@ use borrow.Author.Needs.{needs}
 use borrow.Author.Tests.{eq-eqb, ne-eqb}
 use lib.ListN.{length, replicate}
 use Rattle.choice.specs.Pick.{pick-yes, pick-no}
-use Rattle.tnc_core.specs.Tnc.{endTimeSet}
+use Rattle.tnc_clock.specs.Clock.{endTimeSet}
 use Rattle.event_frame.specs.Numbers.{fourBytes}
 use Rattle.event_call.proofs.Answers.{timed-is, whole-copy}
 use Rattle.event_call.proofs.end_time.Statement.{statement}

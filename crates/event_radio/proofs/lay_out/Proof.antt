@@ -6,7 +6,7 @@ use native.Mathlib.Omega.{arith}
 use borrow.Author.Needs.{needs}
 use lib.ListN.{length}
 use Rattle.store.proofs.Copies.{copied-in}
-use Rattle.tnc_modulator.specs.declared.TxAnswer.{TxAnswer}
+use Rattle.tx_frame.specs.declared.TxAnswer.{TxAnswer}
 use Rattle.event_radio.specs.Radio.{frameBytes}
 use Rattle.event_radio.proofs.Answers.{laid-none, laid-some}
 use Rattle.event_radio.proofs.lay_out.Statement.{statement}

@@ -3,7 +3,7 @@ use mathlib.Core.Path.{_≡_, _∙_}
 use Rattle.choice.specs.Pick.{not-yes, not-no}
 use Rattle.state.specs.declared.Transmission.{Transmission}
 use Rattle.state.specs.State.{transmissionOf}
-use Rattle.tnc_modulator.specs.declared.TxRead.{TxRead}
+use Rattle.tx_frame.specs.declared.TxRead.{TxRead}
 use Rattle.tnc_modulator.specs.Modulator.{given, txRead}
 use Rattle.tnc_modulator.proofs.Cases.{packets-wrong, streams-wrong, unsound, passed}
 use borrow.Author.Needs.{needs}

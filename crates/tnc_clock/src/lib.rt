@@ -1,0 +1,79 @@
+// The calls that tell the TNC the time, with the names of m17core's SoftTnc.
+use channel::Channel;
+use channel::ChannelAnswer;
+use radio::Radio;
+use state::State;
+use tnc_core::Tnc;
+ghost use mathlib.Core.Path.{_≡_};
+ghost use Rattle.tnc_core.specs.Tnc.{withState};
+ghost use Rattle.tnc_clock.specs.Clock.{timed, nowSet, endTimeSet};
+
+pub struct Timed {
+    pub answer: ChannelAnswer,
+    pub tnc: Tnc,
+    pub channel: Channel,
+}
+
+// The farthest end that a modulator may announce, in samples.
+const FARTHEST: u64 = 4294967296;
+
+pub fn set_now(tnc: Tnc, channel: Channel, now_samples: u64) -> Timed
+    ensures { λ r. ⌜ r ≡ nowSet tnc channel «now_samples» ⌝ }
+{
+    if !tnc.is_sound() {
+        return told_time(ChannelAnswer::OutOfBounds, tnc, channel);
+    }
+    let set = channel.set_now(now_samples);
+    let after = set.channel;
+    let answer = set.answer;
+    match answer {
+        ChannelAnswer::OutOfRange => told_time(ChannelAnswer::OutOfRange, tnc, after),
+        ChannelAnswer::OutOfBounds => told_time(ChannelAnswer::OutOfBounds, tnc, after),
+        ChannelAnswer::Done => {
+            let radio = tnc.radio;
+            let state = radio.state;
+            let reached = state.at_time(now_samples);
+            told_time(ChannelAnswer::Done, with_state(tnc, reached), after)
+        }
+    }
+}
+
+// The modulator has said in how many samples it will be done. It counts only in the ending state.
+pub fn set_tx_end_time(tnc: Tnc, channel: Channel, in_samples: u64) -> Timed
+    ensures { λ r. ⌜ r ≡ endTimeSet tnc channel «in_samples» ⌝ }
+{
+    if !tnc.is_sound() {
+        return told_time(ChannelAnswer::OutOfBounds, tnc, channel);
+    }
+    if !channel.is_sound() {
+        return told_time(ChannelAnswer::OutOfBounds, tnc, channel);
+    }
+    if FARTHEST < in_samples {
+        return told_time(ChannelAnswer::OutOfRange, tnc, channel);
+    }
+    let radio = tnc.radio;
+    let state = radio.state;
+    let ending = state.ending_at(channel.clock + in_samples);
+    told_time(ChannelAnswer::Done, with_state(tnc, ending), channel)
+}
+
+fn with_state(tnc: Tnc, state: State) -> Tnc
+    ensures { λ r. ⌜ r ≡ withState tnc state ⌝ }
+{
+    let before = tnc.radio;
+    let outgoing = before.outgoing;
+    tnc.with_radio(Radio {
+        state: state,
+        outgoing: outgoing,
+    })
+}
+
+fn told_time(answer: ChannelAnswer, tnc: Tnc, channel: Channel) -> Timed
+    ensures { λ r. ⌜ r ≡ timed answer tnc channel ⌝ }
+{
+    Timed {
+        answer: answer,
+        tnc: tnc,
+        channel: channel,
+    }
+}
