@@ -1,12 +1,12 @@
--- `tnc_air::begin_stream` meets its contract. Assumes nothing.
+-- `air_lsf::begin_stream` meets its contract. Assumes nothing.
 use mathlib.Core.Path.{_≡_}
 use lib.ListN.{length}
 use Rattle.kiss_build.specs.Build.{streamSetup}
 use Rattle.state.specs.declared.State.the-variants.{RxStream}
 use Rattle.radio.proofs.Messages.{told, setup-accepted}
 use borrow.Author.Needs.{needs}
-use Rattle.tnc_air.proofs.begin_stream.Statement.{statement}
-use Rattle.tnc_air.proofs.begin_stream.Tie as tie
+use Rattle.air_lsf.proofs.begin_stream.Statement.{statement}
+use Rattle.air_lsf.proofs.begin_stream.Tie as tie
 
 thirty : (c : tie.Start) → length (c .args .t1) ≡ 30
 thirty c = search needs

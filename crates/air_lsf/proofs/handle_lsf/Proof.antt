@@ -1,4 +1,4 @@
--- `tnc_air::handle_lsf` meets its contract. Assumes nothing.
+-- `air_lsf::handle_lsf` meets its contract. Assumes nothing.
 use Prim.Native.Nat.{ℕ}
 use mathlib.Core.List.{List}
 use mathlib.Core.Path.{sym, ap, _∙_}
@@ -9,9 +9,9 @@ use Rattle.protocol.specs.declared.lsf.Mode.{Mode}
 use Rattle.radio.specs.declared.Heard.{Heard}
 use Rattle.radio.specs.Box.{Box, Receiving}
 use Rattle.radio.proofs.Cases.{heard-as, frame-only}
-use Rattle.tnc_air.specs.Heard.{begun, lsfHeard}
-use Rattle.tnc_air.proofs.handle_lsf.Statement.{statement}
-use Rattle.tnc_air.proofs.handle_lsf.Tie as tie
+use Rattle.air_lsf.specs.Begun.{begun, lsfHeard}
+use Rattle.air_lsf.proofs.handle_lsf.Statement.{statement}
+use Rattle.air_lsf.proofs.handle_lsf.Tie as tie
 
 abbrev start : tie.After-hears → tie.Start
 start h = h .before .before .before .before .before .before

@@ -1,4 +1,4 @@
--- `tnc_air::begin_packet` meets its contract. Assumes nothing.
+-- `air_lsf::begin_packet` meets its contract. Assumes nothing.
 use Prim.Native.Nat.{_≤_}
 use mathlib.Core.Path.{_≡_, _∙_}
 use native.Mathlib.Omega.{arith}
@@ -7,8 +7,8 @@ use Rattle.store.specs.Room.{over}
 use Rattle.store.proofs.Copies.{copied-in}
 use Rattle.store.proofs.Runs.{put-front}
 use borrow.Author.Needs.{needs}
-use Rattle.tnc_air.proofs.begin_packet.Statement.{statement}
-use Rattle.tnc_air.proofs.begin_packet.Tie as tie
+use Rattle.air_lsf.proofs.begin_packet.Statement.{statement}
+use Rattle.air_lsf.proofs.begin_packet.Tie as tie
 
 thirty : (c : tie.Start) → length (c .args .t2) ≡ 30
 thirty c = search needs
