@@ -31,8 +31,12 @@ use Rattle.radio.specs.declared.Hears.the-variants.{Frame, Answer}
 use Rattle.radio.specs.Radio.{RX, MESSAGE, soundRadio, answered, unlessSending, airNumber}
 use Rattle.radio.specs.Box.{Box, leftBy, Sound as RadioSound}
 use Rattle.radio.proofs.Kept as radio
-use Rattle.tnc_air.specs.Heard.{begun, collectedAfter, collectedIn, collected, finishedAfter, finishedIn, finished, counted, lsfHeard, packetHeard}
-use Rattle.tnc_stream.specs.Stream.{restarted, acquiredWith, acquired, followed, receivedIn, ranged, streamHeard}
+use Rattle.air_lsf.specs.Begun.{begun, lsfHeard}
+use Rattle.air_collect.specs.Collected.{collectedAfter}
+use Rattle.tnc_air.specs.Heard.{collectedIn, collected, finishedAfter, finishedIn, finished, counted, packetHeard}
+use Rattle.stream_acquire.specs.Acquired.{restarted, acquiredWith}
+use Rattle.stream_follow.specs.Followed.{followed}
+use Rattle.tnc_stream.specs.Stream.{acquired, receivedIn, ranged, streamHeard}
 use Rattle.tnc_core.specs.declared.Tnc.{Tnc}
 use Rattle.tnc_core.specs.Tnc.{soundTnc, withRadio}
 use Rattle.tnc_core.proofs.Bounds.{Parts, parts}

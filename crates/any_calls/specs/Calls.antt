@@ -11,7 +11,8 @@ use Rattle.kiss_buffer.specs.Calls.{writeNumber}
 use Rattle.outgoing.specs.Message.{hostNumber}
 use Rattle.radio.specs.declared.Heard.{Heard}
 use Rattle.radio.specs.Radio.{airNumber}
-use Rattle.tnc_air.specs.Heard.{lsfHeard, packetHeard}
+use Rattle.air_lsf.specs.Begun.{lsfHeard}
+use Rattle.tnc_air.specs.Heard.{packetHeard}
 use Rattle.tnc_stream.specs.Stream.{streamHeard}
 use Rattle.tnc_modulator.specs.Modulator.{txNumber}
 use Rattle.tnc_core.specs.declared.Tnc.{Tnc}

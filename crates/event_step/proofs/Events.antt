@@ -10,7 +10,8 @@ use lib.ListN.{length, take, getD}
 use Rattle.choice.specs.Pick.{pick}
 use Rattle.channel.specs.Access.{carrierSet}
 use Rattle.streams.specs.Layout.{frameOf}
-use Rattle.tnc_air.specs.Heard.{lsfHeard, packetHeard}
+use Rattle.air_lsf.specs.Begun.{lsfHeard}
+use Rattle.tnc_air.specs.Heard.{packetHeard}
 use Rattle.tnc_stream.specs.Stream.{streamHeard}
 use Rattle.tnc_clock.specs.Clock.{nowSet, endTimeSet}
 use Rattle.tnc.specs.Calls.{tncWritten, tncRead}

@@ -25,7 +25,9 @@ use Rattle.radio.specs.declared.Radio.{Radio}
 use Rattle.radio.specs.declared.AirAnswer.the-variants.{Done}
 use Rattle.radio.specs.declared.Heard.{Heard}
 use Rattle.radio.specs.Radio.{soundRadio, airNumber}
-use Rattle.tnc_air.specs.Heard.{begun, idle, placeOf, collectedAfter, collectedIn, completed, finishedAfter, finishedIn, finished, counted, lsfHeard, packetHeard}
+use Rattle.air_lsf.specs.Begun.{begun, lsfHeard}
+use Rattle.air_collect.specs.Collected.{idle, placeOf, collectedAfter}
+use Rattle.tnc_air.specs.Heard.{collectedIn, completed, finishedAfter, finishedIn, finished, counted, packetHeard}
 use Rattle.radio.specs.Box.{Box, leftBy, Sound, Receiving}
 use Rattle.tnc_air.specs.Promises.{lsf, packet, lsfAt, RefusedKeepsAll, SendingHearsNothing, SoundStaysSound, PacketBegins, PacketLsfClears, StreamBegins, StreamLsfIsTold}
 use Rattle.radio.proofs.Messages.{setup-accepted, packet-accepted, length-over, told-sound, left-over}

@@ -1,12 +1,10 @@
 -- The cases of a packet's frames: each from the tests on the way to it. Assumes nothing.
-use Prim.Native.Nat.{ℕ, _+_, _≤_, _<_}
+use Prim.Native.Nat.{ℕ, _≤_, _<_}
 use mathlib.Core.Path.{_≡_, sym, ap, _∙_}
 use mathlib.Core.List.{List}
-use borrow.Author.Tests.{eq-eqb, ne-eqb, lt-ltb, le-ltb}
+use borrow.Author.Tests.{lt-ltb, le-ltb}
 use mathlib.Core.Bool.{true}
 use Rattle.choice.specs.Pick.{pick, and-fst}
-use Rattle.store.specs.Room.{placed}
-use Rattle.state.specs.declared.State.the-variants.{RxPacket}
 use Rattle.state.specs.declared.Reception.{Reception}
 use Rattle.state.specs.declared.Reception.the-variants.{Packet as InPacket}
 use Rattle.state.proofs.Bounds.{count-bound}
@@ -14,22 +12,8 @@ use Rattle.state.specs.State.{receptionOf}
 use Rattle.radio.specs.declared.Radio.{Radio}
 use Rattle.radio.specs.declared.AirAnswer.the-variants.{OutOfRange as TooLarge}
 use Rattle.radio.specs.declared.Heard.{Heard}
-use Rattle.radio.specs.Radio.{soundRadio, answered, turned}
-use Rattle.tnc_air.specs.Heard.{idle, placeOf, collectedAfter, collectedIn, collected, finishedIn, finished}
-
-module _ (r : Radio) (count index : ℕ) (payload rx : List ℕ) where
-  pub out-of-order : {x : Heard} → x ≡ idle r → (index ≡ count → ⊥) → (x, rx) ≡ collectedAfter r count index payload rx
-  unfolding collectedAfter pick
-  out-of-order e n = rw (ne-eqb index count n) (λ t. (e t, rx))
-
-  pub too-many : {x : Heard} → x ≡ idle r → index ≡ count → 32 ≤ index → (x, rx) ≡ collectedAfter r count index payload rx
-  unfolding collectedAfter pick
-  too-many e p n = rw (eq-eqb index count p, le-ltb index 32 n) (λ t. (e t, rx))
-
-  pub next-one : {x : Heard} {e : List ℕ} → x ≡ turned (RxPacket (index + 1)) r → index ≡ count → index < 32 → e ≡ placed payload rx (placeOf index)
-      → (x, e) ≡ collectedAfter r count index payload rx
-  unfolding collectedAfter pick
-  next-one f p n e = rw (eq-eqb index count p, lt-ltb index 32 n) (λ t. (f t, e t))
+use Rattle.radio.specs.Radio.{soundRadio, answered}
+use Rattle.tnc_air.specs.Heard.{collectedIn, collected, finishedIn, finished}
 
 -- what the reception that was found makes of a frame
 pub collected-as : (r : Radio) (index : ℕ) (payload rx : List ℕ) {k v : Reception} → k ≡ receptionOf (r .state) → k ≡ v → collectedIn v r index payload rx ≡ collected r index payload rx

@@ -17,12 +17,14 @@ use Rattle.state.specs.State.{transmits, receptionOf}
 use Rattle.radio.specs.declared.AirAnswer.the-variants.{Done}
 use Rattle.radio.specs.declared.Heard.{Heard}
 use Rattle.radio.specs.Radio.{answered}
-use Rattle.tnc_air.specs.Heard.{placeOf, completed, collectedIn, finishedAfter, packetHeard, counted}
+use Rattle.air_collect.specs.Collected.{placeOf}
+use Rattle.air_collect.proofs.Orders.{next-one}
+use Rattle.tnc_air.specs.Heard.{completed, collectedIn, finishedAfter, packetHeard, counted}
 use Rattle.radio.specs.Box.{Box, leftBy, Sound}
 use Rattle.tnc_air.specs.Promises.{AirFrame, lsf, packet, heardAt, after, afterAll, numbered, lastOf, joined, All25, ToldPacket, PacketIsRebuilt}
 use Rattle.radio.proofs.Messages.{left-over}
 use Rattle.radio.proofs.Kept.{listened-to}
-use Rattle.tnc_air.proofs.Packets.{next-one, finished-as}
+use Rattle.tnc_air.proofs.Packets.{finished-as}
 use Rattle.tnc_air.proofs.Kept.{heard, sound-stays-sound}
 
 -- so many frames have come: the store begins with the LSF and their bytes

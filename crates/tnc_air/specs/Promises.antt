@@ -19,7 +19,8 @@ use Rattle.radio.specs.declared.AirAnswer.the-variants.{Done}
 use Rattle.radio.specs.declared.Heard.{Heard}
 use Rattle.radio.specs.Radio.{answered, airNumber}
 use Rattle.radio.specs.Box.{Box, leftBy, Sound, Receiving}
-use Rattle.tnc_air.specs.Heard.{lsfHeard, packetHeard}
+use Rattle.air_lsf.specs.Begun.{lsfHeard}
+use Rattle.tnc_air.specs.Heard.{packetHeard}
 
 abbrev pub lsfAt : Box → List ℕ → Heard × List ℕ × List ℕ
 lsfAt x lsf = lsfHeard (x .radio) lsf (x .rx) (x .out)

@@ -1,9 +1,7 @@
-// What the TNC does with LSF and packet frames from the air, as m17core's tnc.rs has it. A packet that is being received stands in a store of 855 bytes that the caller
+// What the TNC does with packet frames from the air, as m17core's tnc.rs has it. A packet that is being received stands in a store of 855 bytes that the caller
 // lends, its LSF first; the message to the host in one of 1,713 bytes.
+use air_collect::collect_after;
 use kiss_build::new_full_packet;
-use kiss_build::new_stream_setup;
-use protocol::LsfFrame;
-use protocol::Mode;
 use protocol::PacketFrame;
 use protocol::PacketFrameCounter;
 use radio::AirAnswer;
@@ -18,21 +16,7 @@ ghost use mathlib.Core.Bool.{true};
 ghost use mathlib.Core.Path.{_≡_};
 ghost use lib.ListN.{length};
 ghost use Rattle.radio.specs.Radio.{RX, MESSAGE, soundRadio};
-ghost use Rattle.tnc_air.specs.Heard.{packetBegun, streamBegun, lsfHeard, collected, collectedAfter, packetTold, finishedAfter, finished, packetHeard};
-
-// A new LSF clears what went before. While we send, it is our own.
-pub fn handle_lsf(radio: Radio, lsf: LsfFrame, rx: &mut [u8], out: &mut [u8]) -> Heard
-    ensures { λ r. ⌜ (r, now (rx .exit), now (out .exit)) ≡ lsfHeard radio (lsf .0) (now (rx .entry)) (now (out .entry)) ⌝ }
-{
-    let bytes = lsf.0;
-    match radio.hears(rx, out) {
-        Hears::Answer(answer) => radio.answered(answer),
-        Hears::Frame => match lsf.mode() {
-            Mode::Packet => begin_packet(radio, bytes, rx),
-            Mode::Stream => begin_stream(bytes, out),
-        },
-    }
-}
+ghost use Rattle.tnc_air.specs.Heard.{collected, packetTold, finishedAfter, finished, packetHeard};
 
 // The packet goes to the host with its last frame, be its length 0 too. A frame that does not follow makes the radio idle.
 pub fn handle_packet(radio: Radio, frame: PacketFrame, rx: &mut [u8], out: &mut [u8]) -> Heard
@@ -69,26 +53,6 @@ fn collect(radio: Radio, index: usize, payload: [u8; 25], rx: &mut [u8]) -> Hear
     }
 }
 
-fn collect_after(
-    radio: Radio,
-    count: usize,
-    index: usize,
-    payload: [u8; 25],
-    rx: &mut [u8],
-) -> Heard
-    requires { ⌜ length (now rx) ≡ RX ⌝ }
-    ensures { λ r. ⌜ (r, now (rx .exit)) ≡ collectedAfter radio count index payload (now (rx .entry)) ⌝ }
-{
-    if index != count {
-        return radio.turned(State::Idle);
-    }
-    if 32 <= index {
-        return radio.turned(State::Idle);
-    }
-    store::copy_in(&payload, rx, 30 + 25 * index);
-    radio.turned(State::RxPacket(index + 1))
-}
-
 // A packet's last frame.
 fn finish(radio: Radio, len: usize, payload: [u8; 25], rx: &mut [u8], out: &mut [u8]) -> Heard
     requires { ⌜ (soundRadio radio ≡ true) × (length (now rx) ≡ RX) × (length (now out) ≡ MESSAGE) ⌝ }
@@ -104,14 +68,6 @@ fn finish(radio: Radio, len: usize, payload: [u8; 25], rx: &mut [u8], out: &mut 
         Reception::Stream(_) => radio.turned(State::Idle),
         Reception::Packet(count) => finish_after(count, len, payload, rx, out),
     }
-}
-
-fn begin_packet(radio: Radio, lsf: [u8; 30], rx: &mut [u8]) -> Heard
-    requires { ⌜ length (now rx) ≡ RX ⌝ }
-    ensures { λ r. ⌜ (r, now (rx .exit)) ≡ packetBegun radio lsf (now (rx .entry)) ⌝ }
-{
-    store::copy_in(&lsf, rx, 0);
-    radio.turned(State::RxPacket(0))
 }
 
 // A packet's last frame, after so many others: the packet goes to the host.
@@ -131,12 +87,4 @@ fn tell_packet(rx: &[u8], len: usize, out: &mut [u8]) -> Heard
 {
     let built = new_full_packet(&rx[..30], &rx[30..30 + len], out);
     told(State::Idle, built)
-}
-
-fn begin_stream(lsf: [u8; 30], out: &mut [u8]) -> Heard
-    requires { ⌜ length (now out) ≡ MESSAGE ⌝ }
-    ensures { λ r. ⌜ (r, now (out .exit)) ≡ streamBegun lsf (now (out .entry)) ⌝ }
-{
-    let built = new_stream_setup(&lsf, out);
-    told(State::RxStream(0), built)
 }

@@ -9,7 +9,8 @@ use radio::MESSAGE_STORE_LEN;
 use radio::RX_STORE_LEN;
 use tnc_core::Tnc;
 ghost use mathlib.Core.Path.{_≡_};
-ghost use Rattle.tnc_air.specs.Heard.{lsfHeard, packetHeard};
+ghost use Rattle.air_lsf.specs.Begun.{lsfHeard};
+ghost use Rattle.tnc_air.specs.Heard.{packetHeard};
 ghost use Rattle.tnc_stream.specs.Stream.{streamHeard};
 ghost use Rattle.tnc_receive.specs.Calls.{tncHears, notHeard, putHeard, airHeard};
 
@@ -25,7 +26,7 @@ pub fn handle_lsf(tnc: Tnc, lsf: LsfFrame, rx: &mut [u8], message: &mut [u8]) ->
         Hears::Answer(answer) => not_heard(answer, tnc),
         Hears::Frame => {
             let radio = tnc.radio;
-            let heard = tnc_air::handle_lsf(radio, lsf, rx, message);
+            let heard = air_lsf::handle_lsf(radio, lsf, rx, message);
             put_heard(tnc, heard)
         }
     }

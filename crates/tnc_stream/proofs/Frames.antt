@@ -6,8 +6,6 @@ use mathlib.Core.List.{List}
 use borrow.Author.Tests.{lt-ltb, le-ltb}
 use Rattle.choice.specs.Pick.{pick, and-fst}
 use Rattle.protocol.specs.declared.StreamFrame.{StreamFrame}
-use Rattle.kiss_build.specs.Build.{streamData}
-use Rattle.state.specs.declared.State.{State}
 use Rattle.state.specs.declared.Reception.{Reception}
 use Rattle.state.specs.declared.Reception.the-variants.{Acquiring}
 use Rattle.state.specs.State.{receptionOf}
@@ -15,21 +13,10 @@ use Rattle.state.proofs.Bounds.{mask-bound}
 use Rattle.radio.specs.declared.Radio.{Radio}
 use Rattle.radio.specs.declared.AirAnswer.the-variants.{OutOfRange}
 use Rattle.radio.specs.declared.Heard.{Heard}
-use Rattle.radio.specs.Radio.{soundRadio, answered, toHost}
-use Rattle.tnc_stream.specs.Stream.{behind, restarted, followed, receivedIn, ranged}
+use Rattle.radio.specs.Radio.{soundRadio, answered}
+use Rattle.tnc_stream.specs.Stream.{receivedIn, ranged}
 
 module _ (r : Radio) (f : StreamFrame) (rx out : List ℕ) where
-  -- ---- in a stream
-  module _ (expected : ℕ) where
-    pub backward : {h : Heard} {last : List ℕ} → (h, last) ≡ restarted r f rx → f .«frame_number» < expected → (h, last, out) ≡ followed r expected f rx out
-    unfolding followed pick
-    backward e n = rw (lt-ltb (f .«frame_number») expected n) (λ t. (e t .0, e t .1, out))
-
-    pub forward : (s : State) {h : Heard} {last : List ℕ} → (h, last) ≡ toHost s (streamData f) out → behind f ≡ s → expected ≤ f .«frame_number» → (h, rx, last) ≡ followed r expected f rx out
-    unfolding followed pick
-    forward s e b n = let p = e ∙ ap (λ (k : State). toHost k (streamData f) out) (sym b) in rw (le-ltb (f .«frame_number») expected n) (λ t. (p t .0, rx, p t .1))
-
-  -- ---- in any state
   pub index-over : {h : Heard} → h ≡ answered OutOfRange r → 5 < f .«lich_idx» → (h, rx, out) ≡ ranged r f rx out
   unfolding ranged pick
   index-over e n = rw (lt-ltb 5 (f .«lich_idx») n) (λ t. (e t, rx, out))

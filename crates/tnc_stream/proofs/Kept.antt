@@ -29,11 +29,14 @@ use Rattle.radio.specs.Promises.{Told}
 use Rattle.radio.proofs.Messages.{setup-accepted, data-accepted, length-over}
 use Rattle.radio.proofs.Kept.{listened-to, each, to-host-is-told, told-stays-sound}
 use Rattle.radio.proofs.Kept.{sending-hears-nothing as nothing}
-use Rattle.tnc_stream.specs.Stream.{collectionAt, withFrame, collecting, complete, restarted, acquiredWith, acquired, behind, followed, receivedIn, ranged, streamHeard}
+use Rattle.stream_acquire.specs.Acquired.{withFrame, collecting, complete, restarted, acquiredWith}
+use Rattle.stream_acquire.proofs.Segments.{frame-mask, frame-thirty}
+use Rattle.stream_follow.specs.Followed.{behind, followed}
+use Rattle.stream_follow.proofs.Follows.{forward}
+use Rattle.stream_follow.proofs.Follows.{backward as goes-back}
+use Rattle.tnc_stream.specs.Stream.{collectionAt, acquired, receivedIn, ranged, streamHeard}
 use Rattle.tnc_stream.specs.Promises.{streamAt, after, Collects, Typed, InRange, RefusedKeepsAll, SendingHearsNothing, IndexOver5IsRefused, NumberOver32767IsRefused, SoundStaysSound, StreamFrameIsTold, Restarts, idle, packet, backward, Collected, AcquisitionRestarts, BackwardRestarts, SegmentIsKept, CompleteIsTold}
-use Rattle.tnc_stream.proofs.Segments.{frame-mask, frame-thirty}
-use Rattle.tnc_stream.proofs.Frames.{forward, index-over, received-as, mask-in}
-use Rattle.tnc_stream.proofs.Frames.{backward as goes-back}
+use Rattle.tnc_stream.proofs.Frames.{index-over, received-as, mask-in}
 
 -- ---- refusals
 

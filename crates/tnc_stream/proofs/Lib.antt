@@ -1,4 +1,3 @@
-pub mod Segments
 pub mod Frames
 pub mod Kept
 pub mod Gathered

@@ -21,7 +21,9 @@ use Rattle.radio.specs.declared.Heard.{Heard}
 use Rattle.radio.specs.Radio.{answered, airNumber}
 use Rattle.radio.specs.Box.{Box, leftBy, Sound, Receiving}
 use Rattle.radio.specs.Promises.{Told}
-use Rattle.tnc_stream.specs.Stream.{withFrame, complete, behind, streamHeard}
+use Rattle.stream_acquire.specs.Acquired.{withFrame, complete}
+use Rattle.stream_follow.specs.Followed.{behind}
+use Rattle.tnc_stream.specs.Stream.{streamHeard}
 
 abbrev pub streamAt : Box → StreamFrame → Heard × List ℕ × List ℕ
 streamAt x f = streamHeard (x .radio) f (x .rx) (x .out)

@@ -1,24 +1,21 @@
 // What the TNC does with stream frames from the air, as m17core's tnc.rs has it. LICH segments that are being collected stand at the start of a store of 855 bytes that
 // the caller lends, their mask in the state; the message to the host in a store of 1,713 bytes.
-use kiss_build::new_stream_data;
-use kiss_build::new_stream_setup;
-use lich::Assembly;
 use lich::LichCollection;
-use protocol::LsfFrame;
 use protocol::StreamFrame;
 use radio::AirAnswer;
 use radio::Heard;
 use radio::Hears;
 use radio::Radio;
-use radio::told;
 use state::Reception;
-use state::State;
+use stream_acquire::complete;
+use stream_acquire::restart;
+use stream_follow::follow;
 ghost use Prim.Native.Nat.{_≤_, _<_};
 ghost use mathlib.Core.Bool.{true};
 ghost use mathlib.Core.Path.{_≡_};
 ghost use lib.ListN.{length};
 ghost use Rattle.radio.specs.Radio.{RX, MESSAGE, soundRadio};
-ghost use Rattle.tnc_stream.specs.Stream.{restarted, followed, acquired, acquiredWith, ranged, streamHeard};
+ghost use Rattle.tnc_stream.specs.Stream.{acquired, ranged, streamHeard};
 
 // A stream frame follows the one before it, or brings a segment of the LSF. While we send, it is our own.
 pub fn handle_stream(radio: Radio, frame: StreamFrame, rx: &mut [u8], out: &mut [u8]) -> Heard
@@ -49,34 +46,6 @@ fn listen(radio: Radio, frame: StreamFrame, rx: &mut [u8], out: &mut [u8]) -> He
     }
 }
 
-// In a stream. A number below the expected one is of another stream.
-fn follow(radio: Radio, expected: u16, frame: StreamFrame, rx: &mut [u8], out: &mut [u8]) -> Heard
-    requires { ⌜ (frame .«lich_idx» ≤ 5) × (frame .«frame_number» ≤ 32767) × (length (now rx) ≡ RX) × (length (now out) ≡ MESSAGE) ⌝ }
-    ensures { λ r. ⌜ (r, now (rx .exit), now (out .exit)) ≡ followed radio expected frame (now (rx .entry)) (now (out .entry)) ⌝ }
-{
-    if frame.frame_number < expected {
-        return restart(radio, frame, rx);
-    }
-    let built = new_stream_data(frame, out);
-    if frame.end_of_stream {
-        return told(State::Idle, built);
-    }
-    told(State::RxStream(frame.frame_number + 1), built)
-}
-
-// Acquisition of the LSF begins anew, with this frame's segment.
-fn restart(radio: Radio, frame: StreamFrame, rx: &mut [u8]) -> Heard
-    requires { ⌜ (frame .«lich_idx» ≤ 5) × (length (now rx) ≡ RX) ⌝ }
-    ensures { λ r. ⌜ (r, now (rx .exit)) ≡ restarted radio frame (now (rx .entry)) ⌝ }
-{
-    let part = frame.lich_part;
-    let set = LichCollection::new().set_segment(frame.lich_idx, part);
-    let collection = set.collection;
-    let segments = collection.segments;
-    store::copy_in(&segments, rx, 0);
-    radio.turned(State::RxAcquiringStream(collection.mask))
-}
-
 // One segment more of the LSF.
 fn acquire(radio: Radio, mask: u8, frame: StreamFrame, rx: &mut [u8], out: &mut [u8]) -> Heard
     requires { ⌜ (mask < 64) × (frame .«lich_idx» ≤ 5) × (frame .«frame_number» ≤ 32767) × (length (now rx) ≡ RX) × (length (now out) ≡ MESSAGE) ⌝ }
@@ -94,25 +63,4 @@ fn acquire(radio: Radio, mask: u8, frame: StreamFrame, rx: &mut [u8], out: &mut 
     let segments = collection.segments;
     store::copy_in(&segments, rx, 0);
     complete(radio, collection, frame.frame_number, out)
-}
-
-// The LSF goes to the host once all its segments have been heard and its CRC is right. This frame's data and its end are passed over.
-fn complete(radio: Radio, collection: LichCollection, number: u16, out: &mut [u8]) -> Heard
-    requires { ⌜ (collection .mask < 64) × (number ≤ 32767) × (length (now out) ≡ MESSAGE) ⌝ }
-    ensures { λ r. ⌜ (r, now (out .exit)) ≡ acquiredWith radio collection number (now (out .entry)) ⌝ }
-{
-    let whole = collection.try_assemble();
-    let lsf = whole.bytes;
-    let answer = whole.answer;
-    match answer {
-        Assembly::Whole => {
-            if LsfFrame(lsf).check_crc() != 0 {
-                return radio.turned(State::RxAcquiringStream(collection.mask));
-            }
-            let built = new_stream_setup(&lsf, out);
-            told(State::RxStream(number + 1), built)
-        }
-        Assembly::Missing => radio.turned(State::RxAcquiringStream(collection.mask)),
-        Assembly::OutOfBounds => radio.turned(State::RxAcquiringStream(collection.mask)),
-    }
 }

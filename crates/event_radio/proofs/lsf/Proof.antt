@@ -7,7 +7,7 @@ use borrow.Author.Needs.{needs}
 use borrow.Author.Tests.{eq-eqb, ne-eqb}
 use lib.ListN.{length, replicate}
 use Rattle.choice.specs.Pick.{pick-yes, pick-no}
-use Rattle.tnc_air.specs.Heard.{lsfHeard}
+use Rattle.air_lsf.specs.Begun.{lsfHeard}
 use Rattle.tnc_receive.specs.Calls.{airHeard}
 use Rattle.event_call.proofs.Answers.{whole-copy}
 use Rattle.event_radio.proofs.Answers.{heard-is}

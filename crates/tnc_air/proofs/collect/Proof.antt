@@ -1,6 +1,7 @@
 -- `tnc_air::collect` meets its contract. Assumes nothing.
 use mathlib.Core.Path.{_∙_}
 use borrow.Author.Needs.{needs}
+use Rattle.air_collect.proofs.Orders.{in-right-store}
 use Rattle.tnc_air.proofs.Packets.{collected-as}
 use Rattle.tnc_air.proofs.collect.Statement.{statement}
 use Rattle.tnc_air.proofs.collect.Tie as tie
@@ -22,8 +23,8 @@ returns-3 c =
 
 returns-4 : tie.Need-returns-4
 returns-4 c =
-    let b = c .before .before in let w = b .before .before .before in let k = w .before .before in let a = k .before .before .args in
-    b .collect-after .ensures ∙ collected-as (a .radio) (a .index) (a .payload) (a .rx .now) (k .reception .ensures) (w .count .given .1)
+    let b = c .before .before in let w = b .before .before .before in let k = w .before .before in let s = k .before .before in let a = s .args in
+    b .collect-after .ensures ∙ in-right-store (a .radio) (w .count .given .0 .0) (a .index) (a .payload) (a .rx .now) (s .pre) ∙ collected-as (a .radio) (a .index) (a .payload) (a .rx .now) (k .reception .ensures) (w .count .given .1)
 
 pub collect-spec : {M : Type 1} → statement M
 collect-spec = tie.close (tie.spec (λ c κs. search needs) (λ c. search needs) (λ c κs. search needs) (λ c. search needs) (λ c κs. search needs) (λ c. search needs) (λ c κs. search needs) (λ c. search needs) (λ c κs. search needs) returns returns-2 returns-3 (λ c. search needs) returns-4)

@@ -5,7 +5,7 @@ use mathlib.Core.List.{List}
 use borrow.Author.Needs.{needs}
 use Rattle.radio.specs.declared.Heard.{Heard}
 use Rattle.radio.specs.declared.Hears.the-variants.{Frame, Answer}
-use Rattle.tnc_air.specs.Heard.{lsfHeard}
+use Rattle.air_lsf.specs.Begun.{lsfHeard}
 use Rattle.tnc_receive.specs.declared.TncHeard.{TncHeard}
 use Rattle.tnc_receive.specs.Calls.{putHeard}
 use Rattle.tnc_receive.proofs.Cases.{heard-as}

@@ -1,9 +1,18 @@
 -- `tnc_stream::listen` meets its contract. Assumes nothing.
-use mathlib.Core.Path.{_∙_}
+use mathlib.Core.Path.{_≡_, _∙_}
+use lib.ListN.{length}
+use Rattle.stream_acquire.proofs.Segments.{restarted-as}
+use Rattle.stream_follow.proofs.Follows.{followed-as}
 use Rattle.tnc_stream.proofs.Frames.{index-over, number-over, received-as, mask-in}
 use borrow.Author.Needs.{needs}
 use Rattle.tnc_stream.proofs.listen.Statement.{statement}
 use Rattle.tnc_stream.proofs.listen.Tie as tie
+
+five : (s : tie.Start) → length (s .args .frame .«lich_part») ≡ 5
+five s = search needs
+
+sixteen : (s : tie.Start) → length (s .args .frame .«stream_data») ≡ 16
+sixteen s = search needs
 
 returns : tie.Need-returns
 returns c = let i = c .before in let a = i .before .before .before .before .args in index-over (a .radio) (a .frame) (a .rx .now) (a .out .now) (c .answered .ensures) (i .if1 .taken)
@@ -20,7 +29,8 @@ acquire-requires c κs =
 
 returns-3 : tie.Need-returns-3
 returns-3 c =
-    let b = c .before .before in let w = b .before .before in let k = w .before .before in let j = k .before in let i = j .before .before in let a = i .before .before .before .before .args in let p = b .restart .ensures in
+    let b = c .before .before in let w = b .before .before in let k = w .before .before in let j = k .before in let i = j .before .before in let s = i .before .before .before .before in let a = s .args in
+    let p = b .restart .ensures ∙ restarted-as (a .radio) (a .frame) (a .rx .now) (i .if1 .left) (five s) (s .pre .1) in
     (λ t. (p t .0, p t .1, a .out .now))
     ∙ received-as (a .radio) (a .frame) (a .rx .now) (a .out .now) (i .if1 .left) (j .if2 .left) (k .reception .ensures) (w .enum-told .given .1)
 
@@ -31,12 +41,14 @@ returns-4 c =
 
 returns-5 : tie.Need-returns-5
 returns-5 c =
-    let b = c .before .before .before .before in let w = b .before .before .before .before in let k = w .before .before in let j = k .before in let i = j .before .before in let a = i .before .before .before .before .args in
-    b .follow .ensures ∙ received-as (a .radio) (a .frame) (a .rx .now) (a .out .now) (i .if1 .left) (j .if2 .left) (k .reception .ensures) (w .expected .given .1)
+    let b = c .before .before .before .before in let w = b .before .before .before .before in let k = w .before .before in let j = k .before in let i = j .before .before in let s = i .before .before .before .before in let a = s .args in
+    b .follow .ensures ∙ followed-as (a .radio) (a .frame) (a .rx .now) (a .out .now) (w .expected .given .0 .0) (j .if2 .left) (i .if1 .left) (five s) (sixteen s) (s .pre .1) (s .pre .2)
+    ∙ received-as (a .radio) (a .frame) (a .rx .now) (a .out .now) (i .if1 .left) (j .if2 .left) (k .reception .ensures) (w .expected .given .1)
 
 returns-6 : tie.Need-returns-6
 returns-6 c =
-    let b = c .before .before in let w = b .before .before in let k = w .before .before in let j = k .before in let i = j .before .before in let a = i .before .before .before .before .args in let p = b .restart2 .ensures in
+    let b = c .before .before in let w = b .before .before in let k = w .before .before in let j = k .before in let i = j .before .before in let s = i .before .before .before .before in let a = s .args in
+    let p = b .restart2 .ensures ∙ restarted-as (a .radio) (a .frame) (a .rx .now) (i .if1 .left) (five s) (s .pre .1) in
     (λ t. (p t .0, p t .1, a .out .now))
     ∙ received-as (a .radio) (a .frame) (a .rx .now) (a .out .now) (i .if1 .left) (j .if2 .left) (k .reception .ensures) (w .enum-told2 .given .1)
 

@@ -1,0 +1,2 @@
+pub mod Acquired
+pub mod Inside
