@@ -17,12 +17,12 @@ pub fn take_data(
     let sending = host.sending;
     let waiting = sending.packets;
     if number == 0 {
-        let pushed = packet_push::push_basic(waiting, frame, packets);
+        let pushed = packet_basic::push_basic(waiting, frame, packets);
         let after = pushed.queue;
         return with_packets(host, after);
     }
     if number == 1 {
-        let pushed = packet_push::push_full(waiting, frame, packets);
+        let pushed = packet_full::push_full(waiting, frame, packets);
         let after = pushed.queue;
         return with_packets(host, after);
     }

@@ -1,4 +1,4 @@
--- `packet_push::push_basic` meets its contract. Assumes nothing.
+-- `packet_basic::push_basic` meets its contract. Assumes nothing.
 use Prim.Native.Nat.{ℕ, _+_, _*_, _≤_, _<_}
 use mathlib.Core.Path.{_≡_, sym, ap, _∙_}
 use mathlib.Core.Bool.{true}
@@ -10,12 +10,13 @@ use Rattle.kiss_read.specs.Read.{decoded}
 use Rattle.packets.specs.declared.PushAnswer.the-variants.{Queued}
 use Rattle.packets.specs.Frames.{zeros}
 use Rattle.packets.specs.Queue.{ROOM, STORE, soundQueue, basicRoom, madeBasic, withPacket, stored, obeyed, pushedBasic}
-use Rattle.packet_push.specs.Inside.{isPayload}
+use Rattle.packet_basic.specs.Inside.{isPayload}
 use Rattle.packets.proofs.Bounds.{at-here}
-use Rattle.packet_push.proofs.Cases.{pushing-wrong, pushing-unsound, pushing-full, pushing-obeyed, basic-malformed, basic-overlong, basic-fills}
-use Rattle.packet_push.proofs.Rooms.{decoded-count, decoded-keeps, cleared-again, sealed-after}
-use Rattle.packet_push.proofs.push_basic.Statement.{statement}
-use Rattle.packet_push.proofs.push_basic.Tie as tie
+use Rattle.packet_push.proofs.Cases.{pushing-wrong, pushing-unsound, pushing-full, pushing-obeyed, was-accepted}
+use Rattle.packet_basic.proofs.Cases.{basic-malformed, basic-overlong, basic-fills}
+use Rattle.packet_basic.proofs.Rooms.{decoded-count, decoded-keeps, cleared-again, sealed-after}
+use Rattle.packet_basic.proofs.push_basic.Statement.{statement}
+use Rattle.packet_basic.proofs.push_basic.Tie as tie
 
 -- past the tests of store, state and free place
 module _ (e : tie.Else3) where
@@ -89,7 +90,8 @@ returns-6 c =
     let n = decoded-count (a .frame .now) (a .store .now) (ROOM * a .queue .next) (d .decode-into .ensures) in
     let k = y .before .before .if5 .left in
     let s = sealed-after (a .frame .now) (a .store .now) (ROOM * a .queue .next) (d .decode-into .ensures) (fits h) k (y .seal .ensures) in
-    (λ t. (c .accepted .ensures t, s t))
+    let w = was-accepted (a .queue) _ (c .accepted .ensures) (below g) in
+    (λ t. (w t, s t))
     ∙ ap (λ (m : ℕ). (record { answer = Queued; queue = withPacket (a .queue) (m + 3) }, stored (a .store .now) (a .queue .next) (basicRoom m (decoded (a .frame .now) (zeros 824) .1)))) n
     ∙ pushing-obeyed (a .queue) (a .store .now) (madeBasic (a .frame .now)) (whole g) (sound g) (g .if3 .left) (basic-fills (a .frame .now) (payload h) (omega (arith, n, k)))
 
@@ -121,6 +123,6 @@ push-basic-spec =
     returns-5
     seal-requires
     (λ c. search needs)
-    (λ c κs. below (free (c .before .before .before .before .before .before .before .before .before .before)))
+    (λ c κs. search needs)
     (λ c. search needs)
     returns-6)

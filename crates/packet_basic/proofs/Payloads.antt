@@ -9,7 +9,7 @@ use Rattle.kiss_read.specs.declared.Decoded.the-variants.{Payload, MalformedKis
 use Rattle.kiss_read.specs.Scan.{stretch, afterFends}
 use Rattle.kiss_read.specs.Read.{contentIn, payloadAt, decoded}
 use Rattle.packets.specs.Inside.{countOf}
-use Rattle.packet_push.specs.Inside.{isPayload}
+use Rattle.packet_basic.specs.Inside.{isPayload}
 
 pub no-payload : (x : Decoded) → isPayload x ≡ false → x ≡ MalformedKissFrame
 no-payload (Payload n) e = absurd (false≢true (sym e))

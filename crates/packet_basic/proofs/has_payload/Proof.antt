@@ -1,13 +1,13 @@
--- `packet_push::has_payload` meets its contract. Assumes nothing.
+-- `packet_basic::has_payload` meets its contract. Assumes nothing.
 use mathlib.Core.Path.{sym, ap, _∙_}
 use mathlib.Core.List.{List}
 use Prim.Native.Nat.{ℕ}
 use borrow.Author.Needs.{needs}
 use Rattle.kiss_read.specs.declared.Decoded.{Decoded}
 use Rattle.packets.specs.Frames.{zeros}
-use Rattle.packet_push.specs.Inside.{isPayload}
-use Rattle.packet_push.proofs.has_payload.Statement.{statement}
-use Rattle.packet_push.proofs.has_payload.Tie as tie
+use Rattle.packet_basic.specs.Inside.{isPayload}
+use Rattle.packet_basic.proofs.has_payload.Statement.{statement}
+use Rattle.packet_basic.proofs.has_payload.Tie as tie
 
 returns : tie.Need-returns
 unfolding zeros

@@ -1,4 +1,4 @@
--- `packet_push::push_full` meets its contract. Assumes nothing.
+-- `packet_full::push_full` meets its contract. Assumes nothing.
 use Prim.Native.Nat.{ℕ, _+_, _*_, _≤_, _<_}
 use mathlib.Core.Path.{_≡_, sym, ap, _∙_}
 use mathlib.Core.Bool.{true}
@@ -16,9 +16,10 @@ use Rattle.packets.specs.Queue.{ROOM, STORE, soundQueue, madeFull, obeyed, push
 use Rattle.packets.proofs.Bounds.{at-here}
 use Rattle.packets.proofs.Decoding.{in-room}
 use Rattle.packets.proofs.Rooms.{length-zeros}
-use Rattle.packet_push.proofs.Cases.{pushing-wrong, pushing-unsound, pushing-full, pushing-obeyed, full-malformed, full-short, full-unsealed, full-fills}
-use Rattle.packet_push.proofs.push_full.Statement.{statement}
-use Rattle.packet_push.proofs.push_full.Tie as tie
+use Rattle.packet_push.proofs.Cases.{pushing-wrong, pushing-unsound, pushing-full, pushing-obeyed, was-accepted}
+use Rattle.packet_full.proofs.Cases.{full-malformed, full-short, full-unsealed, full-fills}
+use Rattle.packet_full.proofs.push_full.Statement.{statement}
+use Rattle.packet_full.proofs.push_full.Tie as tie
 
 -- past the tests of store, state and free place
 module _ (e : tie.Else3) where
@@ -99,7 +100,8 @@ returns-7 c =
     let k = m .before .before .before .before in let d = k .before .before .before in let g = free d in let a = start g .args in let at : ℕ = ROOM * a .queue .next in
     let fit : at + length (room d) ≤ length (a .store .now) = omega (arith, room-length d, below g, whole g) in
     let s = copied-in (room d) (a .store .now) at (y .copy-in .ensures) fit ∙ sets-eq (room d) (a .store .now) at fit in
-    (λ t. (c .accepted .ensures t, s t))
+    let w = was-accepted (a .queue) _ (c .accepted .ensures) (below g) in
+    (λ t. (w t, s t))
     ∙ pushing-obeyed (a .queue) (a .store .now) (madeFull (a .frame .now)) (whole g) (sound g) (g .if3 .left)
     (full-fills (a .frame .now) (came d) _ (k .n .given .1) (m .before .before .if4 .left) (sym (m .m17-crc .ensures) ∙ x .if5 .left))
 
@@ -131,6 +133,6 @@ push-full-spec =
     (λ c. omega (arith, below (free (c .before .before .before .before .before .before .before .before .before .before .before))))
     (λ c κs. search needs)
     (λ c. search needs)
-    (λ c κs. below (free (c .before .before .before .before .before .before .before .before .before .before .before .before .before .before)))
+    (λ c κs. search needs)
     (λ c. search needs)
     returns-7)

@@ -20,7 +20,7 @@ use Rattle.kiss_read.specs.Read.{decoded}
 use Rattle.packets.specs.Frames.{zeros}
 use Rattle.packets.specs.Queue.{ROOM, RAW, basicRoom}
 use Rattle.packets.specs.Inside.{countOf}
-use Rattle.packet_push.specs.Inside.{decodedAt, sealedAt}
+use Rattle.packet_basic.specs.Inside.{decodedAt, sealedAt}
 use Rattle.packets.proofs.Decoding.{in-room}
 use Rattle.packets.proofs.Rooms.{start, apart, part-placed, length-zeros, basic-lsf-length}
 

@@ -1,4 +1,4 @@
--- `packet_push::decode_into` meets its contract: the lent part, once it is back, stands in the cleared room. Assumes nothing.
+-- `packet_basic::decode_into` meets its contract: the lent part, once it is back, stands in the cleared room. Assumes nothing.
 use Prim.Native.Nat.{ℕ}
 use mathlib.Core.Path.{_≡_}
 use native.Mathlib.Omega.{arith}
@@ -6,9 +6,9 @@ use borrow.Author.Needs.{needs}
 use lib.ListN.{replicate, length-replicate}
 use lib.Seq.{sets}
 use Rattle.store.proofs.Copies.{copied-in}
-use Rattle.packet_push.proofs.Rooms.{decoded-at}
-use Rattle.packet_push.proofs.decode_into.Statement.{statement}
-use Rattle.packet_push.proofs.decode_into.Tie as tie
+use Rattle.packet_basic.proofs.Rooms.{decoded-at}
+use Rattle.packet_basic.proofs.decode_into.Statement.{statement}
+use Rattle.packet_basic.proofs.decode_into.Tie as tie
 
 -- the store when its room is cleared
 module _ (c : tie.After-copy-in) where

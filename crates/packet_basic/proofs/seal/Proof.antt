@@ -1,4 +1,4 @@
--- `packet_push::seal` meets its contract. Assumes nothing.
+-- `packet_basic::seal` meets its contract. Assumes nothing.
 use Prim.Native.Nat.{ℕ}
 use mathlib.Core.Path.{_≡_, ap, _∙_}
 use mathlib.Core.List.{List}
@@ -7,9 +7,9 @@ use borrow.Author.Needs.{needs}
 use lib.ListN.{length, length-set}
 use lib.Seq.{sets, length-sets}
 use Rattle.store.proofs.Copies.{copied-in}
-use Rattle.packet_push.proofs.Rooms.{sealed-at}
-use Rattle.packet_push.proofs.seal.Statement.{statement}
-use Rattle.packet_push.proofs.seal.Tie as tie
+use Rattle.packet_basic.proofs.Rooms.{sealed-at}
+use Rattle.packet_basic.proofs.seal.Statement.{statement}
+use Rattle.packet_basic.proofs.seal.Tie as tie
 
 -- the store when the LSF is in
 module _ (c : tie.After-copy-in) where
