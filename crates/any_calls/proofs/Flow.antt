@@ -26,11 +26,13 @@ use Rattle.state.specs.declared.Transmission.{Transmission}
 use Rattle.state.specs.State.{transmissionOf}
 use Rattle.radio.specs.declared.Heard.{Heard}
 use Rattle.radio.specs.declared.AirAnswer.{AirAnswer}
-use Rattle.host_frame.specs.declared.Host.{Host}
-use Rattle.host_frame.specs.declared.Setting.{Setting}
-use Rattle.host_frame.specs.declared.Setting.the-variants.{Value, Nothing}
+use Rattle.host_record.specs.declared.Host.{Host}
+use Rattle.host_setting.specs.declared.Setting.{Setting}
+use Rattle.host_setting.specs.declared.Setting.the-variants.{Value, Nothing}
 use Rattle.host_frame.specs.declared.FrameTaken.{FrameTaken}
-use Rattle.host_frame.specs.Host.{settingIn, delaySet, duplexOf, dataTaken, byCommand, obeyedOn, byPort, obeyed}
+use Rattle.host_setting.specs.Setting.{settingIn, delaySet, duplexOf}
+use Rattle.host_data.specs.Data.{dataTaken}
+use Rattle.host_frame.specs.Frame.{byCommand, obeyedOn, byPort, obeyed}
 use Rattle.host_frame.specs.Promises.{Box as HostBox, leftBy, after as afterFrame, Sound as HostSound}
 use Rattle.host_frame.proofs.Cases.{taken}
 use Rattle.host_frame.proofs.Kept as host

@@ -24,7 +24,7 @@ use Rattle.packets.specs.Queue.{STORE as PACKETS}
 use Rattle.streams.specs.Queue.{STORE as STREAMS}
 use Rattle.sending.specs.Sending.{soundSending}
 use Rattle.radio.specs.Radio.{MESSAGE, soundRadio}
-use Rattle.host_frame.specs.Host.{soundHost}
+use Rattle.host_record.specs.Host.{soundHost}
 use Rattle.host_frame.specs.Promises.{Sound as HostSound}
 use Rattle.tnc_host.specs.declared.KissWritten.{KissWritten}
 use Rattle.tnc_host.specs.Bytes.{readerBox, hostBox, kissWritten}

@@ -32,7 +32,7 @@ use Rattle.state.specs.declared.State.{State}
 use Rattle.state.specs.declared.Transmission.{Transmission}
 use Rattle.state.specs.declared.Transmission.the-variants.{Receiving, Stream as InStream, StreamSent, Packet as InPacket, Ending}
 use Rattle.state.specs.State.{transmissionOf}
-use Rattle.host_frame.specs.Host.{soundHost}
+use Rattle.host_record.specs.Host.{soundHost}
 use Rattle.host_frame.specs.Promises.{Box as HostBox, after as afterFrame, Sound as HostSound}
 use Rattle.tx_frame.specs.declared.TxRead.{TxRead}
 use Rattle.tx_begin.specs.Begin.{keyedUp}

@@ -3,25 +3,20 @@ use Prim.Native.Nat.{ℕ, _≤_, _<_}
 use mathlib.Core.Bool.{true, false}
 use mathlib.Core.Path.{_≡_, sym, ap, _∙_}
 use mathlib.Core.List.{List}
-use lib.ListN.{length, replicate}
-use borrow.Author.Tests.{eq-eqb, ne-eqb, lt-ltb, le-ltb}
+use lib.ListN.{length}
+use borrow.Author.Tests.{eq-eqb, lt-ltb, le-ltb}
 use Rattle.choice.specs.Pick.{pick}
 use Rattle.kiss_read.specs.declared.PortRead.{PortRead}
 use Rattle.kiss_read.specs.declared.CommandRead.{CommandRead}
-use Rattle.kiss_read.specs.declared.Decoded.{Decoded}
-use Rattle.kiss_read.specs.Read.{portRead, commandRead, decoded}
+use Rattle.kiss_read.specs.Read.{portRead, commandRead}
 use Rattle.packets.specs.Queue.{STORE as PACKETS}
 use Rattle.streams.specs.Queue.{STORE as STREAMS}
-use Rattle.host_frame.specs.declared.Host.{Host}
-use Rattle.host_frame.specs.declared.Setting.{Setting}
+use Rattle.host_record.specs.declared.Host.{Host}
+use Rattle.host_record.specs.Host.{soundHost, storesFit}
+use Rattle.host_record.proofs.Stores.{packets-fit, streams-fit, unfit}
 use Rattle.host_frame.specs.declared.FrameAnswer.the-variants.{Done, WrongStore, OutOfBounds}
 use Rattle.host_frame.specs.declared.FrameTaken.{FrameTaken}
-use Rattle.host_frame.specs.Host.{soundHost, settingFrom, settingIn, byCommand, obeyedOn, byPort, obeyed, answered, frameTaken}
-
--- the setting that a payload stands for
-pub setting-as : (frame room : List ℕ) {k : Decoded} (v : Decoded) → (k, room) ≡ decoded frame (replicate 1 0) → k ≡ v → settingFrom v room ≡ settingIn frame
-unfolding settingIn
-setting-as frame room v e t = ap (λ (d : Decoded). settingFrom d room) (sym t) ∙ ap (λ (p : Decoded × List ℕ). settingFrom (p .0) (p .1)) e
+use Rattle.host_frame.specs.Frame.{byCommand, obeyedOn, byPort, obeyed, answered, frameTaken}
 
 module _ (h : Host) (frame packets streams : List ℕ) where
   -- what the port that was found makes of a frame
@@ -39,18 +34,14 @@ module _ (h : Host) (frame packets streams : List ℕ) where
     command-as v n e t = rw (le-ltb 2 port n) (ap (λ (p : CommandRead). byCommand p port h frame packets streams) (sym t ∙ e))
 
   module _ {x : FrameTaken} where
-    pub packets-wrong : x ≡ answered WrongStore (h, packets, streams) .0 → (length packets ≡ PACKETS → ⊥) → (x, packets, streams) ≡ frameTaken h frame packets streams
-    unfolding frameTaken pick
-    packets-wrong e n = rw (ne-eqb (length packets) PACKETS n) (λ t. (e t, packets, streams))
+    pub stores-wrong : x ≡ answered WrongStore (h, packets, streams) .0 → storesFit (length packets) (length streams) ≡ false → (x, packets, streams) ≡ frameTaken h frame packets streams
+    unfolding frameTaken
+    stores-wrong e n = unfit (length packets) (length streams) _ n (λ t. (e t, packets, streams))
 
-    pub streams-wrong : x ≡ answered WrongStore (h, packets, streams) .0 → length packets ≡ PACKETS → (length streams ≡ STREAMS → ⊥) → (x, packets, streams) ≡ frameTaken h frame packets streams
+    pub unsound : x ≡ answered OutOfBounds (h, packets, streams) .0 → storesFit (length packets) (length streams) ≡ true → soundHost h ≡ false → (x, packets, streams) ≡ frameTaken h frame packets streams
     unfolding frameTaken pick
-    streams-wrong e p n = rw (eq-eqb (length packets) PACKETS p, ne-eqb (length streams) STREAMS n) (λ t. (e t, packets, streams))
-
-    pub unsound : x ≡ answered OutOfBounds (h, packets, streams) .0 → length packets ≡ PACKETS → length streams ≡ STREAMS → soundHost h ≡ false
-        → (x, packets, streams) ≡ frameTaken h frame packets streams
-    unfolding frameTaken pick
-    unsound e p q s = rw (eq-eqb (length packets) PACKETS p, eq-eqb (length streams) STREAMS q, s) (λ t. (e t, packets, streams))
+    unsound e f s =
+        rw (eq-eqb (length packets) PACKETS (packets-fit (length packets) (length streams) f), eq-eqb (length streams) STREAMS (streams-fit (length packets) (length streams) f), s) (λ t. (e t, packets, streams))
 
   pub taken : length packets ≡ PACKETS → length streams ≡ STREAMS → soundHost h ≡ true → answered Done (obeyed h frame packets streams) ≡ frameTaken h frame packets streams
   unfolding frameTaken pick

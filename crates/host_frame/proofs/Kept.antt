@@ -26,12 +26,15 @@ use Rattle.packets.proofs.Kept as packets
 use Rattle.streams.specs.Queue.{STORE as STREAMS}
 use Rattle.streams.proofs.Kept as streams
 use Rattle.sending.specs.Sending.{soundSending}
-use Rattle.host_frame.specs.declared.Host.{Host}
-use Rattle.host_frame.specs.declared.Setting.{Setting}
-use Rattle.host_frame.specs.declared.Setting.the-variants.{Value, Nothing}
+use Rattle.host_record.specs.declared.Host.{Host}
+use Rattle.host_record.specs.Host.{newHost, soundHost}
+use Rattle.host_setting.specs.declared.Setting.{Setting}
+use Rattle.host_setting.specs.declared.Setting.the-variants.{Value, Nothing}
+use Rattle.host_setting.specs.Setting.{withDelay, withChannel, settingFrom, settingIn, delaySet, duplexOf}
+use Rattle.host_data.specs.Data.{dataTaken}
 use Rattle.host_frame.specs.declared.FrameAnswer.the-variants.{Done, WrongStore, OutOfBounds}
 use Rattle.host_frame.specs.declared.FrameTaken.{FrameTaken}
-use Rattle.host_frame.specs.Host.{newHost, soundHost, withDelay, withChannel, settingFrom, settingIn, delaySet, duplexOf, dataTaken, byCommand, obeyedOn, byPort, obeyed, answered, frameTaken, frameNumber}
+use Rattle.host_frame.specs.Frame.{byCommand, obeyedOn, byPort, obeyed, answered, frameTaken, frameNumber}
 use Rattle.host_frame.specs.Promises.{Box, takenAt, leftBy, after, Sound, NewIsSound, RefusedKeepsAll, SoundStaysSound, OtherPortsIgnored, withHost, BuiltSettingsAreTaken}
 use Rattle.host_frame.proofs.Cases.{taken, command-as, port-as}
 

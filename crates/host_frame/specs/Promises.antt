@@ -11,10 +11,12 @@ use Rattle.kiss_build.specs.Build.{txDelay, fullDuplex, frameOf}
 use Rattle.packets.specs.Queue.{STORE as PACKETS}
 use Rattle.streams.specs.Queue.{STORE as STREAMS}
 use Rattle.channel.specs.Access.{withDuplex}
-use Rattle.host_frame.specs.declared.Host.{Host}
+use Rattle.host_record.specs.declared.Host.{Host}
+use Rattle.host_record.specs.Host.{newHost, soundHost}
+use Rattle.host_setting.specs.Setting.{withDelay, withChannel}
 use Rattle.host_frame.specs.declared.FrameAnswer.the-variants.{Done}
 use Rattle.host_frame.specs.declared.FrameTaken.{FrameTaken}
-use Rattle.host_frame.specs.Host.{newHost, soundHost, withDelay, withChannel, answered, frameTaken, frameNumber}
+use Rattle.host_frame.specs.Frame.{answered, frameTaken, frameNumber}
 
 -- a record and its two stores, as the last call left them
 pub record Box : Type 0 where

@@ -1,3 +1,1 @@
-pub mod Payloads
-pub mod Rooms
 pub mod Cases

@@ -1,4 +1,4 @@
-// The packets that wait for transmission, as m17core's TNC queues them; `packet_push` takes them in, `packet_read` cuts them into frames. A queue is a record of four places; the bytes of
+// The packets that wait for transmission, as m17core's TNC queues them; `packet_basic` and `packet_full` take them in, `packet_read` cuts them into frames. A queue is a record of four places; the bytes of
 // place k stand in a store that the caller lends, its LSF at 855 k and its data at 855 k + 30.
 use protocol::LsfFrame;
 use protocol::PacketFrame;
@@ -32,7 +32,7 @@ pub struct PacketQueue {
     pub full: bool,
 }
 
-// The answers of pushes and reads are declared here and not in `packet_push` and `packet_read`, since the definitions and promises of specs/ speak of them too.
+// The answers of pushes and reads are declared here and not in the crates of the calls, since the definitions and promises of specs/ speak of them too.
 pub enum PushAnswer {
     Queued,
     Ignored,

@@ -2,9 +2,9 @@
 // caller lends. Frames from the air are taken by `tnc_receive`, those for the modulator given by `tnc_transmit`; set_now and set_tx_end_time are calls of
 // `tnc_clock`, new and ptt of `Tnc`, set_data_carrier_detect one of `Channel`.
 use channel::Channel;
-use host_frame::Host;
-use host_frame::PACKET_STORE_LEN;
-use host_frame::STREAM_STORE_LEN;
+use host_record::Host;
+use host_record::PACKET_STORE_LEN;
+use host_record::STREAM_STORE_LEN;
 use kiss_buffer::MAX_FRAME_LEN;
 use kiss_buffer::WriteAnswer;
 use outgoing::HostAnswer;

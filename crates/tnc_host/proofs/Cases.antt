@@ -14,8 +14,8 @@ use Rattle.kiss_reader.specs.Reader.{STORE as READER}
 use Rattle.kiss_buffer.specs.Calls.{written}
 use Rattle.packets.specs.Queue.{STORE as PACKETS}
 use Rattle.streams.specs.Queue.{STORE as STREAMS}
-use Rattle.host_frame.specs.declared.Host.{Host}
-use Rattle.host_frame.specs.Host.{soundHost}
+use Rattle.host_record.specs.declared.Host.{Host}
+use Rattle.host_record.specs.Host.{soundHost}
 use Rattle.tnc_host.specs.declared.KissWritten.{KissWritten}
 use Rattle.tnc_host.specs.Bytes.{readerBox, hostBox, refused, onward, offered, kissWritten}
 

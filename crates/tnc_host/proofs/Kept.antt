@@ -21,7 +21,7 @@ use Rattle.kiss_buffer.proofs.Boxes.{reading, new-sound, done-says, write-sound
 use Rattle.kiss_buffer.proofs.Runs.{drain-exists, drain-still, run-frames}
 use Rattle.packets.specs.Queue.{STORE as PACKETS}
 use Rattle.streams.specs.Queue.{STORE as STREAMS}
-use Rattle.host_frame.specs.Host.{soundHost}
+use Rattle.host_record.specs.Host.{soundHost}
 use Rattle.host_frame.specs.Promises.{Box as HostBox, after, Sound as HostSound}
 use Rattle.host_frame.proofs.Kept as host
 use Rattle.tnc_host.specs.declared.KissWritten.{KissWritten}

@@ -14,8 +14,8 @@ use Rattle.kiss_buffer.specs.Calls.{readerOf, written}
 use Rattle.kiss_buffer.specs.Promises.{Box as ReaderBox, afterNextFrame}
 use Rattle.packets.specs.Queue.{STORE as PACKETS}
 use Rattle.streams.specs.Queue.{STORE as STREAMS}
-use Rattle.host_frame.specs.declared.Host.{Host}
-use Rattle.host_frame.specs.Host.{soundHost}
+use Rattle.host_record.specs.declared.Host.{Host}
+use Rattle.host_record.specs.Host.{soundHost}
 use Rattle.host_frame.specs.Promises.{Box as HostBox, after}
 use Rattle.tnc_host.specs.declared.KissWritten.{KissWritten}
 use Rattle.tnc_host.specs.declared.Drained.{Drained}

@@ -1,7 +1,7 @@
 // Bytes from the host, as m17core's write_kiss takes them: the reader cuts them into frames, and each is obeyed until none is left.
-use host_frame::Host;
-use host_frame::PACKET_STORE_LEN;
-use host_frame::STREAM_STORE_LEN;
+use host_record::Host;
+use host_record::PACKET_STORE_LEN;
+use host_record::STREAM_STORE_LEN;
 use kiss_buffer::KissBuffer;
 use kiss_buffer::MAX_FRAME_LEN;
 use kiss_buffer::WriteAnswer;
@@ -90,7 +90,7 @@ fn take_frames(
             };
         }
         let frame = held.frame(reader);
-        let taken = obeyed.take_frame(frame, packets, streams);
+        let taken = host_frame::take_frame(obeyed, frame, packets, streams);
         obeyed = taken.host;
     }
 }

@@ -1,7 +1,7 @@
 // The TNC's call for the modulator.
 use channel::Channel;
-use host_frame::PACKET_STORE_LEN;
-use host_frame::STREAM_STORE_LEN;
+use host_record::PACKET_STORE_LEN;
+use host_record::STREAM_STORE_LEN;
 use protocol::LsfFrame;
 use protocol::PacketFrame;
 use protocol::StreamFrame;

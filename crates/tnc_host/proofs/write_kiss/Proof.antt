@@ -14,7 +14,7 @@ use Rattle.kiss_buffer.specs.Promises.{Sound}
 use Rattle.kiss_buffer.proofs.Boxes.{write-sound, done-says}
 use Rattle.packets.specs.Queue.{STORE as PACKETS}
 use Rattle.streams.specs.Queue.{STORE as STREAMS}
-use Rattle.host_frame.specs.Host.{soundHost}
+use Rattle.host_record.specs.Host.{soundHost}
 use Rattle.host_frame.specs.Promises.{Sound as HostSound}
 use Rattle.tnc_host.specs.declared.KissWritten.{KissWritten}
 use Rattle.tnc_host.specs.declared.Drained.{Drained}

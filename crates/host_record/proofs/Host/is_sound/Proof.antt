@@ -1,0 +1,17 @@
+-- `host_record::Host::is_sound` meets its contract. Assumes nothing.
+use Rattle.choice.specs.Pick.{callees}
+use Rattle.host_record.specs.Host.{soundHost}
+use borrow.Author.Needs.{needs}
+use Rattle.host_record.proofs.Host.is_sound.Statement.{statement}
+use Rattle.host_record.proofs.Host.is_sound.Tie as tie
+
+returns : tie.Need-returns
+unfolding soundHost
+returns c = search callees
+
+returns-2 : tie.Need-returns-2
+unfolding soundHost
+returns-2 c = search callees
+
+pub is-sound-spec : {M : Type 1} → statement M
+is-sound-spec = tie.close (tie.spec (λ c κs. search needs) returns (λ c κs. search needs) returns-2)
