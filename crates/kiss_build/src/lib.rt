@@ -1,4 +1,5 @@
 // The builders of KISS frames, as m17core's kiss.rs has them. Each writes a frame at the start of a room that it is lent.
+use kiss_escape::Escaped;
 use kiss_escape::FEND;
 use kiss_escape::escape;
 use kiss_escape::escaped_len;
@@ -8,7 +9,10 @@ use protocol::StreamFrame;
 ghost use mathlib.Core.Path.{_≡_};
 ghost use mathlib.Core.List.{_++_};
 ghost use Prim.Native.Nat.{_+_, _≤_, _<_};
+ghost use lib.Dec.{leb};
 ghost use lib.ListN.{length};
+ghost use lib.Seq.{sets};
+ghost use Rattle.kiss_escape.specs.Escape.{esc};
 ghost use Rattle.kiss_build.specs.Frame.{headerOf, frame, putFrame};
 ghost use Rattle.kiss_build.specs.Build.{built, basicPacket, fullPacket, streamSetup, streamData, txDelay, persistence, fullDuplex, setting};
 
@@ -135,17 +139,35 @@ fn put_frame(header: u8, first: &[u8], second: &[u8], room: &mut [u8]) -> Built
     requires { ⌜ length (now first) + length (now second) ≤ 855 ⌝ }
     ensures { λ r. ⌜ (r, now (room .exit)) ≡ putFrame (frame header (now (first .entry) ++ now (second .entry))) (now (room .entry)) ⌝ }
 {
-    let n = escaped_len(first);
-    let m = escaped_len(second);
-    let at = n + 2;
-    let end = at + m;
-    if room.len() <= end {
-        return Built::NoRoom;
+    if frame_fits(first, second, room.len()) {
+        room[0] = FEND;
+        room[1] = header;
+        let at = 2 + put_content(first, room, 2);
+        let end = at + put_content(second, room, at);
+        room[end] = FEND;
+        return Built::Frame(end + 1);
     }
-    room[0] = FEND;
-    room[1] = header;
-    escape(first, &mut room[2..]);
-    escape(second, &mut room[at..]);
-    room[end] = FEND;
-    Built::Frame(end + 1)
+    Built::NoRoom
+}
+
+// Whether a frame of both contents fits into a room of len bytes. Twice the contents are room enough whatever they are, so there nothing is counted.
+fn frame_fits(first: &[u8], second: &[u8], len: usize) -> bool
+    requires { ⌜ length (now first) + length (now second) ≤ 855 ⌝ }
+    ensures { λ r. ⌜ r ≡ leb (length (esc (now (first .entry))) + length (esc (now (second .entry))) + 3) len ⌝ }
+{
+    if 2 * (first.len() + second.len()) + 3 <= len {
+        return true;
+    }
+    escaped_len(first) + escaped_len(second) + 3 <= len
+}
+
+// Writes src, escaped, into room from index at on, which has the room for it, and returns how many bytes that took.
+fn put_content(src: &[u8], room: &mut [u8], at: usize) -> usize
+    requires { ⌜ at + length (esc (now src)) ≤ length (now room) ⌝ }
+    ensures { λ r. ⌜ (r ≡ length (esc (now (src .entry)))) × (now (room .exit) ≡ sets (now (room .entry)) at (esc (now (src .entry)))) ⌝ }
+{
+    match escape(src, &mut room[at..]) {
+        Escaped::Wrote(n) => n,
+        Escaped::NoRoom => 0,
+    }
 }

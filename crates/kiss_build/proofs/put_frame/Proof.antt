@@ -1,111 +1,87 @@
--- `kiss_build::put_frame` meets its contract. Each lent part, once it is back, is a run of stores in the whole (`lent-over`). Assumes nothing.
-use Prim.Native.Nat.{ℕ, _+_, _-_, _≤_, _<_}
+-- `kiss_build::put_frame` meets its contract: its stores, one after the other, make the frame. Assumes nothing.
+use Prim.Native.Nat.{ℕ, _+_, _≤_, _<_}
 use mathlib.Core.Path.{_≡_, sym, ap, _∙_}
 use mathlib.Core.List.{List, _++_}
 use native.Mathlib.Omega.{arith}
 use borrow.Author.Needs.{needs}
-use borrow.Rule.Slice.PartMut.{midOf, putMid}
-use lib.ListN.{length, set, length-set, length-take, length-drop}
+use borrow.Author.Tests.{leb-true, leb-false}
+use lib.ListN.{length, set, length-set}
 use lib.Seq.{sets, length-sets}
 use Rattle.store.specs.Room.{over}
-use Rattle.store.proofs.Parts.{lent-over}
 use Rattle.kiss_build.specs.declared.Built.the-variants.{Frame}
 use Rattle.kiss_escape.specs.Escape.{FEND, esc}
 use Rattle.kiss_build.specs.Frame.{frame}
-use Rattle.kiss_escape.proofs.Escapes.{esc-length, escaped-in}
 use Rattle.kiss_build.proofs.Frames.{frame-length-two, put-yes, put-no, frame-stored}
 use Rattle.kiss_build.proofs.put_frame.Statement.{statement}
 use Rattle.kiss_build.proofs.put_frame.Tie as tie
 
--- both contents escaped are short, so that no sum wraps
-short : (s : tie.Start) → length (esc (s .args .first .now)) + length (esc (s .args .second .now)) ≤ 1710
-short s = omega (arith, esc-length (s .args .first .now), esc-length (s .args .second .now), s .pre)
-
 -- past the test: the frame fits
-module _ (c : tie.Else1) where
+module _ (c : tie.Then1) where
   abbrev start : tie.Start
-  start = c .before .before .before .before .before .before
+  start = c .before .before .before .before .before
 
-  abbrev n : ℕ
-  n = c .before .before .escaped-len .result
+  room-for : length (esc (start .args .first .now)) + length (esc (start .args .second .now)) + 3 ≤ length (start .args .room .now)
+  room-for = leb-true _ _ (sym (c .before .frame-fits .ensures) ∙ c .if1 .taken)
 
-  abbrev m : ℕ
-  m = c .before .escaped-len2 .result
+-- when the first content is in, and when the second is
+module _ (c : tie.After-slice-known2) where
+  abbrev fits1 : tie.Then1
+  fits1 = c .before .before .before .before
+
+  first-count : c .before .before .put-content .result ≡ length (esc (start fits1 .args .first .now))
+  first-count = c .before .before .put-content .ensures .0
 
   abbrev opened : List ℕ
-  opened = set (set (start .args .room .now) 0 FEND) 1 (start .args .header)
+  opened = set (set (start fits1 .args .room .now) 0 FEND) 1 (start fits1 .args .header)
 
--- the room when the first content is in
-module _ (c : tie.After-slice-known2) where
-  abbrev e : tie.Else1
-  e = c .before .before .before .before
+  first-length : length (c .before .before .put-content .last .1 .0) ≡ length (start fits1 .args .room .now)
+  first-length = ap length (c .before .before .put-content .ensures .1) ∙ length-sets opened 2 (esc (start fits1 .args .first .now)) ∙ simp length-set
 
-  abbrev whole : List ℕ
-  whole = putMid 2 (length (opened e) - 2) (opened e) (c .before .before .escape .last .1 .0)
-
-  back : whole ≡ sets (opened e) 2 (esc (start e .args .first .now))
-  back =
-      let k = length (opened e) - 2 in
-      ap (putMid 2 k (opened e)) (escaped-in (start e .args .first .now) (midOf 2 k (opened e)) (c .before .before .escape .ensures) (simp (length-take, length-drop, length-set) (omega arith)))
-      ∙ lent-over 2 k (opened e) (esc (start e .args .first .now)) (simp length-set (omega arith)) (simp length-set (omega arith))
-
-  back-length : length whole ≡ length (start e .args .room .now)
-  back-length = ap length back ∙ length-sets (opened e) 2 (esc (start e .args .first .now)) ∙ simp length-set
-
--- the room when the second content is in
 module _ (c : tie.After-slice-known3) where
   abbrev k : tie.After-slice-known2
   k = c .before .before .before .before
 
-  abbrev at : ℕ
-  at = n (e k) + 2
+  second-count : c .before .before .put-content2 .result ≡ length (esc (start (fits1 k) .args .second .now))
+  second-count = c .before .before .put-content2 .ensures .0
 
-  abbrev whole2 : List ℕ
-  whole2 = putMid at (length (whole k) - at) (whole k) (c .before .before .escape2 .last .1 .0)
-
-  back2 : whole2 ≡ sets (whole k) at (esc (start (e k) .args .second .now))
-  back2 =
-      let l = back-length k in let r = length (whole k) - at in
-      ap (putMid at r (whole k)) (escaped-in (start (e k) .args .second .now) (midOf at r (whole k)) (c .before .before .escape2 .ensures) (simp (length-take, length-drop) (omega arith)))
-      ∙ lent-over at r (whole k) (esc (start (e k) .args .second .now)) (omega arith) (omega arith)
-
-  back2-length : length whole2 ≡ length (start (e k) .args .room .now)
-  back2-length = ap length back2 ∙ length-sets (whole k) at (esc (start (e k) .args .second .now)) ∙ back-length k
+  second-length : length (c .before .before .put-content2 .last .1 .0) ≡ length (start (fits1 k) .args .room .now)
+  second-length =
+      ap length (c .before .before .put-content2 .ensures .1)
+      ∙ length-sets (k .before .before .put-content .last .1 .0) (2 + k .before .before .put-content .result) (esc (start (fits1 k) .args .second .now))
+      ∙ first-length k
 
 returns : tie.Need-returns
 returns c =
-    let a = c .before .before .before .before .before .before .args in
-    sym (put-no (frame (a .header) (a .first .now ++ a .second .now)) (a .room .now) (omega (arith, frame-length-two (a .header) (a .first .now) (a .second .now))))
+    let g = fits1 (k c) in let a = start g .args in
+    let h = a .header in let s = a .first .now in let t = a .second .now in
+    let p = k c .before .before .put-content in let q = c .before .before .put-content2 in
+    let at : ℕ = 2 + p .result in let end : ℕ = at + q .result in
+    let len : end + 1 ≡ length (frame h (s ++ t)) = omega (arith, frame-length-two h s t, first-count (k c), second-count c) in
+    let stored : set (q .last .1 .0) end FEND ≡ over (frame h (s ++ t)) (a .room .now) =
+    ap (λ (x : List ℕ). set x end FEND) (q .ensures .1 ∙ ap (λ (x : List ℕ). sets x at (esc t)) (p .ensures .1))
+    ∙ frame-stored h s t (a .room .now) at end (omega (arith, first-count (k c))) (omega (arith, second-count c)) (omega (arith, room-for g, first-count (k c), second-count c)) in
+    (λ u. (Frame (len u), stored u)) ∙ sym (put-yes (frame h (s ++ t)) (a .room .now) (omega (arith, frame-length-two h s t, room-for g)))
 
 returns-2 : tie.Need-returns-2
 returns-2 c =
-    let g = e (k c) in
-    let a = start g .args in
+    let a = c .before .before .before .before .before .args in
     let h = a .header in let s = a .first .now in let t = a .second .now in
-    let len : n g + 2 + m g + 1 ≡ length (frame h (s ++ t)) = omega (arith, frame-length-two h s t) in
-    let stored : set (whole2 c) (n g + 2 + m g) FEND ≡ over (frame h (s ++ t)) (a .room .now) = rw (back2 c, back (k c)) (frame-stored h s t (a .room .now) (n g + 2) (n g + 2 + m g) (omega arith) (omega arith) (omega arith)) in
-    (λ u. (Frame (len u), stored u)) ∙ sym (put-yes (frame h (s ++ t)) (a .room .now) (omega arith))
+    let none : length (a .room .now) < length (esc s) + length (esc t) + 3 = leb-false _ _ (sym (c .before .frame-fits .ensures) ∙ c .if1 .left) in
+    sym (put-no (frame h (s ++ t)) (a .room .now) (omega (arith, frame-length-two h s t)))
 
 pub put-frame-spec : {M : Type 1} → statement M
 put-frame-spec =
     tie.close
     (tie.spec
     (λ c κs. search needs)
-    (λ c κs. search needs)
-    (λ c. omega (arith, short (c .before .before .before .before .before)))
-    (λ c. omega (arith, short (c .before .before .before .before .before)))
+    (λ c. omega (arith, room-for c))
+    (λ c. simp length-set (omega (arith, room-for c)))
+    (λ c κs. simp length-set (omega (arith, room-for (c .before))))
+    (λ c. omega (arith, room-for (fits1 c), first-count c))
+    (λ c κs. omega (arith, room-for (fits1 (c .before)), first-count (c .before), first-length (c .before)))
+    (λ c. omega (arith, room-for (fits1 (k c)), first-count (k c), second-count c))
+    (λ c. omega (arith, room-for (fits1 (k c)), first-count (k c), second-count c, second-length c))
+    (λ c. omega (arith, room-for (fits1 (k c)), first-count (k c), second-count c))
+    (λ c. simp length-set (second-length c))
     returns
-    (λ c. search needs)
-    (λ c. simp length-set (omega arith))
-    (λ c. simp length-set (omega arith))
-    (λ c. simp length-set (omega arith))
-    (λ c. search needs)
-    (λ c κs. search needs)
-    (λ c. rw (back-length c) (omega arith))
-    (λ c. rw (back-length c) (omega arith))
-    (λ c. search needs)
-    (λ c κs. search needs)
-    (λ c. rw (back2-length c) (omega arith))
-    (λ c. search needs)
-    (λ c. length-set (whole2 c) _ FEND ∙ back2-length c)
     returns-2)
