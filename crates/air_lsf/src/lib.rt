@@ -6,7 +6,8 @@ use protocol::Mode;
 use radio::Heard;
 use radio::Hears;
 use radio::Radio;
-use radio::told;
+use radio_hears::hears;
+use radio_told::told;
 use state::State;
 ghost use mathlib.Core.Path.{_≡_};
 ghost use lib.ListN.{length};
@@ -18,7 +19,7 @@ pub fn handle_lsf(radio: Radio, lsf: LsfFrame, rx: &mut [u8], out: &mut [u8]) ->
     ensures { λ r. ⌜ (r, now (rx .exit), now (out .exit)) ≡ lsfHeard radio (lsf .0) (now (rx .entry)) (now (out .entry)) ⌝ }
 {
     let bytes = lsf.0;
-    match radio.hears(rx, out) {
+    match hears(radio, rx, out) {
         Hears::Answer(answer) => radio.answered(answer),
         Hears::Frame => match lsf.mode() {
             Mode::Packet => begin_packet(radio, bytes, rx),

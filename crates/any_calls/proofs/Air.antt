@@ -41,9 +41,9 @@ use Rattle.tnc_core.specs.declared.Tnc.{Tnc}
 use Rattle.tnc_core.specs.Tnc.{soundTnc, withRadio}
 use Rattle.tnc_core.proofs.Bounds.{Parts, parts}
 use Rattle.tnc_core.proofs.Kept.{with-radio-is-sound}
-use Rattle.tnc_receive.specs.declared.TncHeard.{TncHeard}
-use Rattle.tnc_receive.specs.Calls.{putHeard, tncHears, heardBy, airHeard}
-use Rattle.tnc_receive.proofs.Cases.{heard-as}
+use Rattle.tnc_heard.specs.declared.TncHeard.{TncHeard}
+use Rattle.tnc_heard.specs.Calls.{putHeard, tncHears, heardBy, airHeard}
+use Rattle.tnc_heard.proofs.Cases.{heard-as}
 use Rattle.any_calls.specs.Calls.{World, hears, afterHeard}
 use Rattle.any_calls.specs.Promises.{Sound}
 

@@ -11,7 +11,7 @@ use Rattle.channel.specs.declared.Channel.{Channel}
 use Rattle.radio.specs.Radio.{airNumber}
 use Rattle.tx_frame.specs.declared.TxAnswer.{TxAnswer}
 use Rattle.tnc_modulator.specs.Modulator.{kindNumber}
-use Rattle.tnc_receive.specs.declared.TncHeard.{TncHeard}
+use Rattle.tnc_heard.specs.declared.TncHeard.{TncHeard}
 use Rattle.tnc_transmit.specs.declared.TncTx.{TncTx}
 use Rattle.event_call.specs.declared.Applied.{Applied}
 use Rattle.event_call.specs.Answer.{answered}

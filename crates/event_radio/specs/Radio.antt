@@ -9,7 +9,7 @@ use Rattle.streams.specs.Layout.{bytesOf}
 use Rattle.tx_frame.specs.declared.TxAnswer.{TxAnswer}
 use Rattle.tx_frame.specs.declared.TxAnswer.the-variants.{Nothing, Preamble, Lsf, Stream, Packet, EndOfTransmission, WrongStore, OutOfBounds}
 use Rattle.tnc_modulator.specs.Modulator.{kindNumber}
-use Rattle.tnc_receive.specs.declared.TncHeard.{TncHeard}
+use Rattle.tnc_heard.specs.declared.TncHeard.{TncHeard}
 use Rattle.tnc_transmit.specs.declared.TncTx.{TncTx}
 use Rattle.event_frame.specs.Packet.{packetBody}
 use Rattle.event_call.specs.declared.Applied.{Applied}

@@ -20,7 +20,7 @@ ghost use Rattle.air_lsf.specs.Begun.{lsfHeard};
 ghost use Rattle.tnc_air.specs.Heard.{packetHeard};
 ghost use Rattle.tnc_stream.specs.Stream.{streamHeard};
 ghost use Rattle.tnc_modulator.specs.Modulator.{kindNumber};
-ghost use Rattle.tnc_receive.specs.Calls.{airHeard};
+ghost use Rattle.tnc_heard.specs.Calls.{airHeard};
 ghost use Rattle.tnc_transmit.specs.Calls.{tncTx};
 ghost use Rattle.event_frame.specs.Packet.{packetOf};
 ghost use Rattle.event_call.specs.Answer.{MOST, refused};

@@ -1,4 +1,4 @@
--- What was built is what the host is told. Assumes nothing.
+-- The messages to the host: builders accept what they are made of, and they are within the bounds. Assumes nothing.
 use Prim
 use Prim.Native.Nat.{ℕ, _-_, _≤_}
 use mathlib.Core.Bool.{true}
@@ -12,24 +12,11 @@ use Rattle.choice.specs.Pick.{pick-yes, pick-no, and-both}
 use Rattle.store.specs.Room.{over}
 use Rattle.store.proofs.Runs.{put-front}
 use Rattle.protocol.specs.declared.StreamFrame.{StreamFrame}
-use Rattle.kiss_build.specs.declared.Built.{Built}
-use Rattle.kiss_build.specs.Build.{Building, fullPacket, streamSetup, streamData, refusal, frameOf, built}
+use Rattle.kiss_build.specs.Build.{Building, fullPacket, streamSetup, streamData, refusal, frameOf}
 use Rattle.kiss_build.specs.Promises.{Accepted}
-use Rattle.kiss_build.proofs.Kept.{accepted-is-built, built-at-most-1713}
+use Rattle.kiss_build.proofs.Kept.{built-at-most-1713}
 use Rattle.outgoing.specs.Message.{soundMessage, left}
-use Rattle.state.specs.declared.State.{State}
-use Rattle.radio.specs.declared.Heard.{Heard}
-use Rattle.radio.specs.Radio.{MESSAGE, toHost}
-use Rattle.radio.specs.Inside.{toldOf}
-
--- the answer and the message's store, once a builder whose arguments it accepts was called and `told` was told its answer
-pub told : (s : State) (b : Building) (out last : List ℕ) (r : Built) (h : Heard) → Accepted b → length out ≡ MESSAGE → (r, last) ≡ built b out → h ≡ toldOf s r
-    → (h, last) ≡ toHost s b out
-told s b out last r h ok full e m =
-    let short = built-at-most-1713 b ok in
-    let p = e ∙ accepted-is-built b out ok (omega (arith, short, full)) in
-    let n = m ∙ ap (λ (q : Built × List ℕ). toldOf s (q .0)) p in
-    λ t. (n t, p t .1)
+use Rattle.radio.specs.Radio.{MESSAGE}
 
 pub setup-accepted : (lsf : List ℕ) → length lsf ≡ 30 → Accepted (streamSetup lsf)
 unfolding refusal

@@ -1,4 +1,3 @@
 pub mod Radio
-pub mod Inside
 pub mod Box
 pub mod Promises

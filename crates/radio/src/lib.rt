@@ -1,10 +1,8 @@
 // What frames from the air change beside the stores, the TNC's state and its message to the host, and what all calls with such a frame have in common.
-use kiss_build::Built;
 use outgoing::Outgoing;
 use state::State;
 ghost use mathlib.Core.Path.{_≡_};
-ghost use Rattle.radio.specs.Radio.{soundRadio, answered, turned, hearsOf};
-ghost use Rattle.radio.specs.Inside.{messageOf, toldOf};
+ghost use Rattle.radio.specs.Radio.{soundRadio, answered, turned};
 
 // What is being received stands in a store of the caller's: the LSF, or its LICH segments, and behind it the packet.
 pub const RX_STORE_LEN: usize = 855;
@@ -45,26 +43,6 @@ impl Radio {
         self.outgoing.is_sound()
     }
 
-    // The four tests of every call: the two stores, the record, and whether we send. While we send, what is heard is our own.
-    pub fn hears(self, rx: &[u8], out: &[u8]) -> Hears
-        ensures { λ r. ⌜ r ≡ hearsOf self (now (rx .entry)) (now (out .entry)) ⌝ }
-    {
-        if rx.len() != RX_STORE_LEN {
-            return Hears::Answer(AirAnswer::WrongStore);
-        }
-        if out.len() != MESSAGE_STORE_LEN {
-            return Hears::Answer(AirAnswer::WrongStore);
-        }
-        if !self.is_sound() {
-            return Hears::Answer(AirAnswer::OutOfBounds);
-        }
-        let state = self.state;
-        if state.ptt() {
-            return Hears::Answer(AirAnswer::Done);
-        }
-        Hears::Frame
-    }
-
     // Nothing has changed.
     pub fn answered(self, answer: AirAnswer) -> Heard
         ensures { λ r. ⌜ r ≡ answered answer self ⌝ }
@@ -87,32 +65,5 @@ impl Radio {
                 outgoing: outgoing,
             },
         }
-    }
-}
-
-// The radio in a state, with the message that was built.
-pub fn told(state: State, built: Built) -> Heard
-    ensures { λ r. ⌜ r ≡ toldOf state built ⌝ }
-{
-    let outgoing = message(built);
-    Heard {
-        answer: AirAnswer::Done,
-        radio: Radio {
-            state: state,
-            outgoing: outgoing,
-        },
-    }
-}
-
-// A frame of ours always fits into the store, so there always is one.
-fn message(built: Built) -> Outgoing
-    ensures { λ r. ⌜ r ≡ messageOf built ⌝ }
-{
-    match built {
-        Built::Frame(len) => Outgoing { len: len, read: 0 },
-        Built::PayloadTooBig => Outgoing::new(),
-        Built::LsfWrongSize => Outgoing::new(),
-        Built::OutOfRange => Outgoing::new(),
-        Built::NoRoom => Outgoing::new(),
     }
 }

@@ -29,8 +29,9 @@ use Rattle.radio.specs.declared.Radio.{Radio}
 use Rattle.radio.specs.declared.Heard.{Heard}
 use Rattle.radio.specs.Radio.{RX, MESSAGE, answered, toHost}
 use Rattle.radio.specs.declared.AirAnswer.the-variants.{OutOfRange as TooLarge}
-use Rattle.radio.specs.Inside.{toldOf}
-use Rattle.radio.proofs.Messages.{told, setup-accepted}
+use Rattle.radio_told.specs.Inside.{toldOf}
+use Rattle.radio.proofs.Messages.{setup-accepted}
+use Rattle.radio_told.proofs.Tells.{told}
 use Rattle.stream_acquire.specs.Acquired.{withFrame, collecting, restarted, acquiredWith}
 use Rattle.stream_acquire.specs.Inside.{keptIn, restartedBy, byAssembly, acquiredBy}
 

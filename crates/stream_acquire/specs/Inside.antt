@@ -16,7 +16,7 @@ use Rattle.radio.specs.declared.Radio.{Radio}
 use Rattle.radio.specs.declared.AirAnswer.the-variants.{OutOfRange}
 use Rattle.radio.specs.declared.Heard.{Heard}
 use Rattle.radio.specs.Radio.{answered}
-use Rattle.radio.specs.Inside.{toldOf}
+use Rattle.radio_told.specs.Inside.{toldOf}
 use Rattle.stream_acquire.specs.Acquired.{collecting}
 
 -- a collection is what is being collected, and stands at the store's start where it fits

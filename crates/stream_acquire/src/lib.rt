@@ -8,7 +8,7 @@ use protocol::StreamFrame;
 use radio::AirAnswer;
 use radio::Heard;
 use radio::Radio;
-use radio::told;
+use radio_told::told;
 use state::State;
 ghost use mathlib.Core.Path.{_≡_};
 ghost use Rattle.stream_acquire.specs.Inside.{restartedBy, acquiredBy};

@@ -14,8 +14,9 @@ use Rattle.radio.specs.declared.Radio.{Radio}
 use Rattle.radio.specs.declared.AirAnswer.the-variants.{OutOfRange}
 use Rattle.radio.specs.declared.Heard.{Heard}
 use Rattle.radio.specs.Radio.{RX, MESSAGE, answered, toHost}
-use Rattle.radio.specs.Inside.{toldOf}
-use Rattle.radio.proofs.Messages.{told, data-accepted}
+use Rattle.radio_told.specs.Inside.{toldOf}
+use Rattle.radio.proofs.Messages.{data-accepted}
+use Rattle.radio_told.proofs.Tells.{told}
 use Rattle.stream_acquire.specs.Acquired.{restarted}
 use Rattle.stream_acquire.specs.Inside.{restartedBy}
 use Rattle.stream_acquire.proofs.Segments.{restarted-as}

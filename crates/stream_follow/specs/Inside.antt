@@ -9,7 +9,7 @@ use Rattle.radio.specs.declared.Radio.{Radio}
 use Rattle.radio.specs.declared.AirAnswer.the-variants.{OutOfRange}
 use Rattle.radio.specs.declared.Heard.{Heard}
 use Rattle.radio.specs.Radio.{answered}
-use Rattle.radio.specs.Inside.{toldOf}
+use Rattle.radio_told.specs.Inside.{toldOf}
 use Rattle.stream_acquire.specs.Inside.{restartedBy}
 use Rattle.stream_follow.specs.Followed.{behind}
 

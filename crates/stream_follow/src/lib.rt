@@ -4,7 +4,7 @@ use protocol::StreamFrame;
 use radio::AirAnswer;
 use radio::Heard;
 use radio::Radio;
-use radio::told;
+use radio_told::told;
 use state::State;
 use stream_acquire::restart;
 ghost use mathlib.Core.Path.{_≡_};

@@ -8,7 +8,8 @@ use radio::AirAnswer;
 use radio::Heard;
 use radio::Hears;
 use radio::Radio;
-use radio::told;
+use radio_hears::hears;
+use radio_told::told;
 use state::Reception;
 use state::State;
 ghost use Prim.Native.Nat.{_≤_};
@@ -24,7 +25,7 @@ pub fn handle_packet(radio: Radio, frame: PacketFrame, rx: &mut [u8], out: &mut 
 {
     let payload = frame.payload;
     let counter = frame.counter;
-    match radio.hears(rx, out) {
+    match hears(radio, rx, out) {
         Hears::Answer(answer) => radio.answered(answer),
         Hears::Frame => match counter {
             PacketFrameCounter::Frame { index } => collect(radio, index, payload, rx),

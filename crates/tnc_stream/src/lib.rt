@@ -6,6 +6,7 @@ use radio::AirAnswer;
 use radio::Heard;
 use radio::Hears;
 use radio::Radio;
+use radio_hears::hears;
 use state::Reception;
 use stream_acquire::complete;
 use stream_acquire::restart;
@@ -21,7 +22,7 @@ ghost use Rattle.tnc_stream.specs.Stream.{acquired, ranged, streamHeard}
 pub fn handle_stream(radio: Radio, frame: StreamFrame, rx: &mut [u8], out: &mut [u8]) -> Heard
     ensures { λ r. ⌜ (r, now (rx .exit), now (out .exit)) ≡ streamHeard radio frame (now (rx .entry)) (now (out .entry)) ⌝ }
 {
-    match radio.hears(rx, out) {
+    match hears(radio, rx, out) {
         Hears::Answer(answer) => radio.answered(answer),
         Hears::Frame => listen(radio, frame, rx, out),
     }

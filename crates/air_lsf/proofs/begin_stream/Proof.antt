@@ -3,7 +3,8 @@ use mathlib.Core.Path.{_≡_}
 use lib.ListN.{length}
 use Rattle.kiss_build.specs.Build.{streamSetup}
 use Rattle.state.specs.declared.State.the-variants.{RxStream}
-use Rattle.radio.proofs.Messages.{told, setup-accepted}
+use Rattle.radio.proofs.Messages.{setup-accepted}
+use Rattle.radio_told.proofs.Tells.{told}
 use borrow.Author.Needs.{needs}
 use Rattle.air_lsf.proofs.begin_stream.Statement.{statement}
 use Rattle.air_lsf.proofs.begin_stream.Tie as tie

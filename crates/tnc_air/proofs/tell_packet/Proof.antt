@@ -8,7 +8,8 @@ use lib.Seq.{length-take-le}
 use Rattle.protocol.specs.Lsf.{part}
 use Rattle.kiss_build.specs.Build.{fullPacket, built}
 use Rattle.state.specs.declared.State.the-variants.{Idle}
-use Rattle.radio.proofs.Messages.{told, packet-accepted}
+use Rattle.radio.proofs.Messages.{packet-accepted}
+use Rattle.radio_told.proofs.Tells.{told}
 use Rattle.tnc_air.proofs.tell_packet.Statement.{statement}
 use Rattle.tnc_air.proofs.tell_packet.Tie as tie
 

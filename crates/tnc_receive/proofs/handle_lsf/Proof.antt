@@ -6,17 +6,16 @@ use borrow.Author.Needs.{needs}
 use Rattle.radio.specs.declared.Heard.{Heard}
 use Rattle.radio.specs.declared.Hears.the-variants.{Frame, Answer}
 use Rattle.air_lsf.specs.Begun.{lsfHeard}
-use Rattle.tnc_receive.specs.declared.TncHeard.{TncHeard}
-use Rattle.tnc_receive.specs.Calls.{putHeard}
-use Rattle.tnc_receive.proofs.Cases.{heard-as}
+use Rattle.tnc_heard.specs.declared.TncHeard.{TncHeard}
+use Rattle.tnc_heard.specs.Calls.{putHeard}
+use Rattle.tnc_heard.proofs.Cases.{heard-as}
 use Rattle.tnc_receive.proofs.handle_lsf.Statement.{statement}
 use Rattle.tnc_receive.proofs.handle_lsf.Tie as tie
 
 returns : tie.Need-returns
 returns c =
-    let m = c .before .before in let k = m .before .before in let a = k .before .before .before .before .before .args in
-    (λ i. (c .not-heard .ensures i, a .rx .now, a .message .now))
-    ∙ heard-as (a .tnc) (a .rx .now) (a .message .now) (lsfHeard (a .tnc .radio) (a .lsf .0) (a .rx .now) (a .message .now)) (Answer _) (k .hears .ensures) (m .answer .given .1)
+    let m = c .before in let k = m .before .before in let a = k .before .before .before .before .before .args in
+    heard-as (a .tnc) (a .rx .now) (a .message .now) (lsfHeard (a .tnc .radio) (a .lsf .0) (a .rx .now) (a .message .now)) (Answer _) (k .hears .ensures) (m .answer .given .1)
 
 returns-2 : tie.Need-returns-2
 returns-2 c =
@@ -32,7 +31,6 @@ handle-lsf-spec =
     (tie.spec
     (λ c κs. search needs)
     (λ c. search needs)
-    (λ c κs. search needs)
     (λ c. search needs)
     (λ c κs. search needs)
     (λ c κs. search needs)

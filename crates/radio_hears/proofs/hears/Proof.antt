@@ -1,9 +1,9 @@
--- `radio::Radio::hears` meets its contract. Assumes nothing.
+-- `radio_hears::hears` meets its contract. Assumes nothing.
 use Rattle.choice.specs.Pick.{callees}
 use Rattle.radio.specs.Radio.{hearsOf}
 use borrow.Author.Needs.{needs}
-use Rattle.radio.proofs.Radio.hears.Statement.{statement}
-use Rattle.radio.proofs.Radio.hears.Tie as tie
+use Rattle.radio_hears.proofs.hears.Statement.{statement}
+use Rattle.radio_hears.proofs.hears.Tie as tie
 
 returns : tie.Need-returns
 unfolding hearsOf

@@ -13,7 +13,7 @@ use Rattle.radio.specs.declared.Hears.the-variants.{Frame, Answer}
 use Rattle.radio.specs.Radio.{RX, MESSAGE}
 use Rattle.tnc_core.specs.declared.Tnc.{Tnc}
 use Rattle.tnc_core.specs.Tnc.{soundTnc, withRadio}
-use Rattle.tnc_receive.specs.declared.TncHeard.{TncHeard}
+use Rattle.tnc_heard.specs.declared.TncHeard.{TncHeard}
 
 abbrev pub notHeard : AirAnswer → Tnc → TncHeard
 notHeard a t = record { answer = a; tnc = t }

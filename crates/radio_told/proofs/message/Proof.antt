@@ -1,9 +1,9 @@
--- `radio::message` meets its contract. Assumes nothing.
+-- `radio_told::message` meets its contract. Assumes nothing.
 use mathlib.Core.Path.{ap, sym}
-use Rattle.radio.specs.Inside.{messageOf}
+use Rattle.radio_told.specs.Inside.{messageOf}
 use borrow.Author.Needs.{needs}
-use Rattle.radio.proofs.message.Statement.{statement}
-use Rattle.radio.proofs.message.Tie as tie
+use Rattle.radio_told.proofs.message.Statement.{statement}
+use Rattle.radio_told.proofs.message.Tie as tie
 
 returns : tie.Need-returns
 returns c = ap messageOf (sym (c .before .built .given .1))

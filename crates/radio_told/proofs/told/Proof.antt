@@ -1,9 +1,9 @@
--- `radio::told` meets its contract. Assumes nothing.
+-- `radio_told::told` meets its contract. Assumes nothing.
 use Rattle.radio.specs.declared.AirAnswer.the-variants.{Done}
 use Rattle.radio.specs.Radio.{answered}
 use borrow.Author.Needs.{needs}
-use Rattle.radio.proofs.told.Statement.{statement}
-use Rattle.radio.proofs.told.Tie as tie
+use Rattle.radio_told.proofs.told.Statement.{statement}
+use Rattle.radio_told.proofs.told.Tie as tie
 
 returns : tie.Need-returns
 returns c = λ t. answered Done (record { state = c .before .args .state; outgoing = c .message .ensures t })

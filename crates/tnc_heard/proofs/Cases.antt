@@ -5,7 +5,7 @@ use mathlib.Core.List.{List}
 use Rattle.radio.specs.declared.Heard.{Heard}
 use Rattle.radio.specs.declared.Hears.{Hears}
 use Rattle.tnc_core.specs.declared.Tnc.{Tnc}
-use Rattle.tnc_receive.specs.Calls.{tncHears, heardBy, airHeard}
+use Rattle.tnc_heard.specs.Calls.{tncHears, heardBy, airHeard}
 
 -- what a frame from the air does, once it is known whether the TNC hears it
 pub heard-as : (t : Tnc) (rx message : List ℕ) (h : Heard × List ℕ × List ℕ) {k : Hears} (v : Hears) → k ≡ tncHears t rx message → k ≡ v
