@@ -13,7 +13,8 @@ use Rattle.streams.specs.Layout.{frameOf}
 use Rattle.tnc_air.specs.Heard.{lsfHeard, packetHeard}
 use Rattle.tnc_stream.specs.Stream.{streamHeard}
 use Rattle.tnc_core.specs.Tnc.{nowSet, endTimeSet}
-use Rattle.tnc.specs.Calls.{tncWritten, tncRead}
+use Rattle.tnc.specs.Calls.{tncWritten}
+use Rattle.tnc_read.specs.Calls.{tncRead}
 use Rattle.tnc_receive.specs.Calls.{airHeard}
 use Rattle.tnc_transmit.specs.Calls.{tncTx}
 use Rattle.any_calls.specs.Calls.{World, Call, writeKiss, readKiss, handleLsf, handlePacket, handleStream, setDataCarrierDetect, setNow, setTxEndTime, readTxFrame, after, number}

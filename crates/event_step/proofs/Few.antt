@@ -35,9 +35,9 @@ use Rattle.tnc_modulator.specs.declared.TxAnswer.{TxAnswer}
 use Rattle.tnc_modulator.specs.declared.TxAnswer.the-variants.{Nothing, Preamble, Lsf, Stream, Packet, EndOfTransmission, WrongStore, OutOfBounds}
 use Rattle.tnc_modulator.specs.declared.TxRead.{TxRead}
 use Rattle.tnc_modulator.specs.Modulator.{unfilled, keyedUp, allowed, begun, streamGiven, packetGiven, given, txRead}
-use Rattle.tnc.specs.declared.TncRead.{TncRead}
+use Rattle.tnc_read.specs.declared.TncRead.{TncRead}
 use Rattle.tnc_transmit.specs.declared.TncTx.{TncTx}
-use Rattle.tnc.specs.Calls.{tncRead}
+use Rattle.tnc_read.specs.Calls.{tncRead}
 use Rattle.tnc_transmit.specs.Calls.{tncTx}
 use Rattle.any_calls.specs.Calls.{World, Call, writeKiss, readKiss, handleLsf, handlePacket, handleStream, setDataCarrierDetect, setNow, setTxEndTime, ptt, readTxFrame, gives}
 use Rattle.event_frame.specs.Packet.{packetBody, counterByte}
