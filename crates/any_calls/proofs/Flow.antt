@@ -36,7 +36,7 @@ use Rattle.host_frame.specs.Frame.{byCommand, obeyedOn, byPort, obeyed}
 use Rattle.host_frame.specs.Promises.{Box as HostBox, leftBy, after as afterFrame, Sound as HostSound}
 use Rattle.host_frame.proofs.Cases.{taken}
 use Rattle.host_frame.proofs.Kept as host
-use Rattle.tnc_host.specs.Bytes.{allTaken, framesHeld}
+use Rattle.tnc_drain.specs.Drain.{allTaken, framesHeld}
 use Rattle.tnc_host.specs.Promises.{Link}
 use Rattle.tnc_host.specs.Promises.{afterWrite as afterLink}
 use Rattle.tnc_host.proofs.Kept as hosts
@@ -44,7 +44,7 @@ use Rattle.tnc_core.specs.declared.Tnc.{Tnc}
 use Rattle.tnc_core.specs.Tnc.{withState}
 use Rattle.tnc_clock.specs.Clock.{nowSet, endTimeSet}
 use Rattle.tnc.specs.declared.TncWritten.{TncWritten}
-use Rattle.tnc.specs.declared.TncRead.{TncRead}
+use Rattle.tnc_read.specs.declared.TncRead.{TncRead}
 use Rattle.tnc_heard.specs.declared.TncHeard.{TncHeard}
 use Rattle.tnc_transmit.specs.declared.TncTx.{TncTx}
 use Rattle.any_calls.specs.Calls.{World, Call, writeKiss, readKiss, handleLsf, handlePacket, handleStream, setDataCarrierDetect, setNow, setTxEndTime, ptt, readTxFrame, writes, reads, hears, lsfIn, packetIn, streamIn, gives, afterWrite, withTnc, afterHeard, withBoth, after, run}

@@ -27,7 +27,8 @@ use Rattle.radio.specs.Radio.{MESSAGE, soundRadio}
 use Rattle.host_record.specs.Host.{soundHost}
 use Rattle.host_frame.specs.Promises.{Sound as HostSound}
 use Rattle.tnc_host.specs.declared.KissWritten.{KissWritten}
-use Rattle.tnc_host.specs.Bytes.{readerBox, hostBox, kissWritten}
+use Rattle.tnc_drain.specs.Drain.{readerBox, hostBox}
+use Rattle.tnc_host.specs.Bytes.{kissWritten}
 use Rattle.tnc_host.specs.Promises.{Link, writtenAt, leftBy, Sound as LinkSound}
 use Rattle.tnc_host.specs.Promises.{afterWrite as afterLink}
 use Rattle.tnc_host.proofs.Kept as host
@@ -36,8 +37,9 @@ use Rattle.tnc_core.specs.Tnc.{soundTnc}
 use Rattle.tnc_core.proofs.Bounds.{Parts, parts, joined}
 use Rattle.tnc_core.proofs.Kept.{with-radio-is-sound}
 use Rattle.tnc.specs.declared.TncWritten.{TncWritten}
-use Rattle.tnc.specs.declared.TncRead.{TncRead}
-use Rattle.tnc.specs.Calls.{putBack, tncWritten, withMessage, hasRead, tncRead}
+use Rattle.tnc_read.specs.declared.TncRead.{TncRead}
+use Rattle.tnc.specs.Calls.{putBack, tncWritten}
+use Rattle.tnc_read.specs.Calls.{withMessage, hasRead, tncRead}
 use Rattle.tnc.proofs.Cases.{is-written}
 use Rattle.any_calls.specs.Calls.{World, writes, reads, afterWrite, withTnc}
 use Rattle.any_calls.specs.Promises.{Sound}

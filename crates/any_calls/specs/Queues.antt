@@ -22,7 +22,7 @@ use Rattle.state.specs.declared.Transmission.{Transmission}
 use Rattle.state.specs.declared.Transmission.the-variants.{Receiving, Stream as InStream, StreamSent, Packet as InPacket, Ending}
 use Rattle.state.specs.State.{transmissionOf}
 use Rattle.host_frame.specs.Promises.{Box as HostBox, after as afterFrame}
-use Rattle.tnc_host.specs.Bytes.{readerBox, hostBox, framesHeld}
+use Rattle.tnc_drain.specs.Drain.{readerBox, hostBox, framesHeld}
 use Rattle.tx_frame.specs.declared.TxAnswer.{TxAnswer}
 use Rattle.tx_frame.specs.declared.TxAnswer.the-variants.{Nothing, Preamble, Lsf, Stream, Packet as Piece, EndOfTransmission, WrongStore, OutOfBounds}
 use Rattle.tnc_transmit.specs.declared.TncTx.{TncTx}

@@ -16,7 +16,7 @@ use Rattle.outgoing.specs.Message.{hostNumber}
 use Rattle.tnc_core.specs.declared.Tnc.{Tnc}
 use Rattle.tnc_clock.specs.declared.Timed.{Timed}
 use Rattle.tnc.specs.declared.TncWritten.{TncWritten}
-use Rattle.tnc.specs.declared.TncRead.{TncRead}
+use Rattle.tnc_read.specs.declared.TncRead.{TncRead}
 use Rattle.event_call.specs.declared.Applied.{Applied}
 use Rattle.event_call.specs.Answer.{answered, ofWrite, ofSet, ofTimed, ofRead}
 

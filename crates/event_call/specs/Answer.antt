@@ -15,7 +15,7 @@ use Rattle.tnc_core.specs.declared.Ptt.the-variants.{Off, On, OutOfBounds as No
 use Rattle.tnc_clock.specs.declared.Timed.{Timed}
 use Rattle.tnc_core.specs.Tnc.{pttOf}
 use Rattle.tnc.specs.declared.TncWritten.{TncWritten}
-use Rattle.tnc.specs.declared.TncRead.{TncRead}
+use Rattle.tnc_read.specs.declared.TncRead.{TncRead}
 use Rattle.event_call.specs.declared.EventBox.{EventBox}
 use Rattle.event_call.specs.declared.Applied.{Applied}
 

@@ -15,7 +15,8 @@ ghost use Rattle.channel.specs.Access.{carrierSet, setNumber};
 ghost use Rattle.kiss_buffer.specs.Calls.{writeNumber};
 ghost use Rattle.outgoing.specs.Message.{hostNumber};
 ghost use Rattle.tnc_clock.specs.Clock.{nowSet, endTimeSet};
-ghost use Rattle.tnc.specs.Calls.{tncWritten, tncRead};
+ghost use Rattle.tnc.specs.Calls.{tncWritten};
+ghost use Rattle.tnc_read.specs.Calls.{tncRead};
 ghost use Rattle.event_frame.specs.Numbers.{fourBytes, eightBytes};
 ghost use Rattle.event_call.specs.Answer.{MOST, onFlag, answered, refused, ofWrite, ofSet, ofTimed, ofRead};
 
@@ -174,7 +175,7 @@ pub fn read_host(before: EventBox, body: &[u8], message: &[u8], bytes: &mut [u8]
     let tnc = before.tnc;
     let channel = before.channel;
     let most = body[0] as usize;
-    let read = tnc::read_kiss(tnc, message, &mut bytes[..most]);
+    let read = tnc_read::read_kiss(tnc, message, &mut bytes[..most]);
     let given = read.answer;
     let tnc_after = read.tnc;
     answer(host_number(given), read.count, tnc_after, channel)

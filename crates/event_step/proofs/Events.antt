@@ -14,7 +14,8 @@ use Rattle.air_lsf.specs.Begun.{lsfHeard}
 use Rattle.tnc_air.specs.Heard.{packetHeard}
 use Rattle.tnc_stream.specs.Stream.{streamHeard}
 use Rattle.tnc_clock.specs.Clock.{nowSet, endTimeSet}
-use Rattle.tnc.specs.Calls.{tncWritten, tncRead}
+use Rattle.tnc.specs.Calls.{tncWritten}
+use Rattle.tnc_read.specs.Calls.{tncRead}
 use Rattle.tnc_heard.specs.Calls.{airHeard}
 use Rattle.tnc_transmit.specs.Calls.{tncTx}
 use Rattle.any_calls.specs.Calls.{World, Call, writeKiss, readKiss, handleLsf, handlePacket, handleStream, setDataCarrierDetect, setNow, setTxEndTime, readTxFrame, after, number}

@@ -39,9 +39,9 @@ use Rattle.tx_begin.specs.Begin.{keyedUp, allowed, begun}
 use Rattle.tx_stream.specs.Stream.{streamGiven}
 use Rattle.tx_packet.specs.Packet.{packetGiven}
 use Rattle.tnc_modulator.specs.Modulator.{given, txRead}
-use Rattle.tnc.specs.declared.TncRead.{TncRead}
+use Rattle.tnc_read.specs.declared.TncRead.{TncRead}
 use Rattle.tnc_transmit.specs.declared.TncTx.{TncTx}
-use Rattle.tnc.specs.Calls.{tncRead}
+use Rattle.tnc_read.specs.Calls.{tncRead}
 use Rattle.tnc_transmit.specs.Calls.{tncTx}
 use Rattle.any_calls.specs.Calls.{World, Call, writeKiss, readKiss, handleLsf, handlePacket, handleStream, setDataCarrierDetect, setNow, setTxEndTime, ptt, readTxFrame, gives}
 use Rattle.event_frame.specs.Packet.{packetBody, counterByte}

@@ -2,6 +2,7 @@
 use kiss_read::Decoded;
 use kiss_read::decode_payload;
 use protocol::LsfFrame;
+use stream_bytes::frame_bytes;
 use streams::FRAME_LEN;
 use streams::LSF_AT;
 use streams::PLACES;
@@ -12,8 +13,6 @@ use streams::StreamQueue;
 ghost use mathlib.Core.Bool.{true};
 ghost use mathlib.Core.Path.{_≡_};
 ghost use lib.ListN.{length};
-ghost use Rattle.kiss_stream.specs.Stream.{streamOf};
-ghost use Rattle.streams.specs.Layout.{bytesOf};
 ghost use Rattle.streams.specs.Queue.{STORE, soundQueue, dataPushed, lsfPushed, pushed};
 
 // Up to 25 bytes are no stream data. Both bounds are one number, so that no length lies between them.
@@ -87,18 +86,4 @@ fn unchanged(answer: StreamAnswer, queue: StreamQueue) -> StreamPushed
         answer: answer,
         queue: queue,
     }
-}
-
-// The bytes to be stored of what a data payload stands for. The LICH index has the top three bits of its byte, and the top bit of the number marks the end.
-fn frame_bytes(payload: [u8; 30]) -> [u8; 25]
-    ensures { λ r. ⌜ r ≡ bytesOf (streamOf payload) ⌝ }
-{
-    let mut bytes = [0u8; 25];
-    bytes[0] = payload[5] / 32;
-    store::copy_in(&payload[..5], &mut bytes, 1);
-    bytes[6] = payload[6] % 128;
-    bytes[7] = payload[7];
-    bytes[8] = payload[6] / 128;
-    store::copy_in(&payload[8..24], &mut bytes, 9);
-    bytes
 }

@@ -4,13 +4,15 @@ use mathlib.Core.Bool.{true, false}
 use mathlib.Core.Path.{_≡_}
 use mathlib.Core.List.{List}
 use lib.ListN.{length}
-use borrow.Author.Tests.{eq-eqb, ne-eqb}
+use borrow.Author.Tests.{eq-eqb}
 use Rattle.choice.specs.Pick.{pick}
 use Rattle.channel.specs.declared.Channel.{Channel}
 use Rattle.kiss_buffer.specs.declared.WriteAnswer.the-variants.{WrongStore as NoRoom, OutOfBounds as NoState}
 use Rattle.kiss_reader.specs.Reader.{STORE as READER}
 use Rattle.packets.specs.Queue.{STORE as PACKETS}
 use Rattle.streams.specs.Queue.{STORE as STREAMS}
+use Rattle.link_ready.specs.Ready.{linkFits}
+use Rattle.link_ready.proofs.Stores.{unfit}
 use Rattle.tnc_host.specs.declared.KissWritten.{KissWritten}
 use Rattle.tnc_host.specs.Bytes.{kissWritten}
 use Rattle.tnc_core.specs.declared.Tnc.{Tnc}
@@ -19,19 +21,10 @@ use Rattle.tnc.specs.declared.TncWritten.{TncWritten}
 use Rattle.tnc.specs.Calls.{notWritten, putBack, tncWritten}
 
 module _ (t : Tnc) (c : Channel) (buf reader packets streams : List ℕ) where
-  module _ {x : TncWritten} where
-    pub reader-wrong : x ≡ notWritten NoRoom t c → (length reader ≡ READER → ⊥) → (x, reader, packets, streams) ≡ tncWritten t c buf reader packets streams
-    unfolding tncWritten pick
-    reader-wrong e n = rw (ne-eqb (length reader) READER n) (λ i. (e i, reader, packets, streams))
-
-    pub packets-wrong : x ≡ notWritten NoRoom t c → length reader ≡ READER → (length packets ≡ PACKETS → ⊥) → (x, reader, packets, streams) ≡ tncWritten t c buf reader packets streams
-    unfolding tncWritten pick
-    packets-wrong e r n = rw (eq-eqb (length reader) READER r, ne-eqb (length packets) PACKETS n) (λ i. (e i, reader, packets, streams))
-
-    pub streams-wrong : x ≡ notWritten NoRoom t c → length reader ≡ READER → length packets ≡ PACKETS → (length streams ≡ STREAMS → ⊥)
-        → (x, reader, packets, streams) ≡ tncWritten t c buf reader packets streams
-    unfolding tncWritten pick
-    streams-wrong e r p n = rw (eq-eqb (length reader) READER r, eq-eqb (length packets) PACKETS p, ne-eqb (length streams) STREAMS n) (λ i. (e i, reader, packets, streams))
+  pub stores-wrong : {x : TncWritten} → x ≡ notWritten NoRoom t c → linkFits (length reader) (length packets) (length streams) ≡ false
+      → (x, reader, packets, streams) ≡ tncWritten t c buf reader packets streams
+  unfolding tncWritten
+  stores-wrong e n = unfit (length reader) (length packets) (length streams) _ n (λ i. (e i, reader, packets, streams))
 
   module _ (r : length reader ≡ READER) (p : length packets ≡ PACKETS) (q : length streams ≡ STREAMS) where
     pub unsound : {x : TncWritten} → x ≡ notWritten NoState t c → soundTnc t ≡ false → (x, reader, packets, streams) ≡ tncWritten t c buf reader packets streams

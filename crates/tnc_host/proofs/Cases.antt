@@ -1,38 +1,34 @@
 -- The cases of `kissWritten`: each from the tests on the way to it. Assumes nothing.
 use Prim.Native.Nat.{ℕ}
-use mathlib.Core.Bool.{true, false}
-use mathlib.Core.Path.{_≡_, sym, ap, _∙_}
+use mathlib.Core.Bool.{true, false, false≢true}
+use mathlib.Core.Path.{_≡_, refl, sym, ap, _∙_}
 use mathlib.Core.List.{List}
 use lib.ListN.{length}
-use borrow.Author.Tests.{eq-eqb, ne-eqb}
+use borrow.Author.Tests.{eq-eqb}
 use Rattle.choice.specs.Pick.{pick}
 use Rattle.kiss_buffer.specs.declared.KissBuffer.{KissBuffer}
 use Rattle.kiss_buffer.specs.declared.WriteAnswer.{WriteAnswer}
-use Rattle.kiss_buffer.specs.declared.WriteAnswer.the-variants.{WrongStore, OutOfBounds}
+use Rattle.kiss_buffer.specs.declared.WriteAnswer.the-variants.{Done, Full, WrongStore, OutOfBounds}
 use Rattle.kiss_buffer.specs.declared.Written.{Written}
 use Rattle.kiss_reader.specs.Reader.{STORE as READER}
 use Rattle.kiss_buffer.specs.Calls.{written}
+use Rattle.kiss_buffer.specs.Promises.{Box as ReaderBox}
 use Rattle.packets.specs.Queue.{STORE as PACKETS}
 use Rattle.streams.specs.Queue.{STORE as STREAMS}
 use Rattle.host_record.specs.declared.Host.{Host}
 use Rattle.host_record.specs.Host.{soundHost}
+use Rattle.host_frame.specs.Promises.{Box as HostBox}
+use Rattle.link_ready.specs.Ready.{linkFits, wasTaken}
+use Rattle.link_ready.proofs.Stores.{unfit}
 use Rattle.tnc_host.specs.declared.KissWritten.{KissWritten}
-use Rattle.tnc_host.specs.Bytes.{readerBox, hostBox, refused, onward, offered, kissWritten}
+use Rattle.tnc_drain.specs.Drain.{readerBox, hostBox}
+use Rattle.tnc_host.specs.Bytes.{refused, onward, offered, kissWritten}
 
 module _ (b : KissBuffer) (h : Host) (buf reader packets streams : List ℕ) where
-  module _ {x : KissWritten} where
-    pub reader-wrong : x ≡ refused WrongStore b h → (length reader ≡ READER → ⊥) → (x, reader, packets, streams) ≡ kissWritten b h buf reader packets streams
-    unfolding kissWritten pick
-    reader-wrong e n = rw (ne-eqb (length reader) READER n) (λ t. (e t, reader, packets, streams))
-
-    pub packets-wrong : x ≡ refused WrongStore b h → length reader ≡ READER → (length packets ≡ PACKETS → ⊥) → (x, reader, packets, streams) ≡ kissWritten b h buf reader packets streams
-    unfolding kissWritten pick
-    packets-wrong e r n = rw (eq-eqb (length reader) READER r, ne-eqb (length packets) PACKETS n) (λ t. (e t, reader, packets, streams))
-
-    pub streams-wrong : x ≡ refused WrongStore b h → length reader ≡ READER → length packets ≡ PACKETS → (length streams ≡ STREAMS → ⊥)
-        → (x, reader, packets, streams) ≡ kissWritten b h buf reader packets streams
-    unfolding kissWritten pick
-    streams-wrong e r p n = rw (eq-eqb (length reader) READER r, eq-eqb (length packets) PACKETS p, ne-eqb (length streams) STREAMS n) (λ t. (e t, reader, packets, streams))
+  pub stores-wrong : {x : KissWritten} → x ≡ refused WrongStore b h → linkFits (length reader) (length packets) (length streams) ≡ false
+      → (x, reader, packets, streams) ≡ kissWritten b h buf reader packets streams
+  unfolding kissWritten
+  stores-wrong e n = unfit (length reader) (length packets) (length streams) _ n (λ t. (e t, reader, packets, streams))
 
   module _ (r : length reader ≡ READER) (p : length packets ≡ PACKETS) (q : length streams ≡ STREAMS) where
     pub unsound : {x : KissWritten} → x ≡ refused OutOfBounds b h → soundHost h ≡ false → (x, reader, packets, streams) ≡ kissWritten b h buf reader packets streams
@@ -47,3 +43,11 @@ module _ (b : KissBuffer) (h : Host) (buf reader packets streams : List ℕ) whe
         rw (eq-eqb (length reader) READER r, eq-eqb (length packets) PACKETS p, eq-eqb (length streams) STREAMS q, s)
         (ap (λ (k : WriteAnswer). onward k (w .count) (readerBox (w .buffer) last) (hostBox h packets streams)) (sym t)
         ∙ ap (λ (k : Written × List ℕ). offered k (hostBox h packets streams)) e)
+
+-- where the reader took nothing, nothing is taken
+pub not-onward : (a : WriteAnswer) (count : ℕ) (x : ReaderBox) (w : HostBox) → wasTaken a ≡ false
+    → (refused a (x .buffer) (w .host), x .store, w .packets, w .streams) ≡ onward a count x w
+not-onward Done count x w e = absurd (false≢true (sym e))
+not-onward Full count x w e = refl
+not-onward WrongStore count x w e = refl
+not-onward OutOfBounds count x w e = refl

@@ -25,9 +25,10 @@ use Rattle.host_record.specs.Host.{soundHost}
 use Rattle.host_frame.specs.Promises.{Box as HostBox, after, Sound as HostSound}
 use Rattle.host_frame.proofs.Kept as host
 use Rattle.tnc_host.specs.declared.KissWritten.{KissWritten}
-use Rattle.tnc_host.specs.Bytes.{readerBox, hostBox, framesHeld, passed, allTaken, drained, refused, onward, offered, kissWritten}
+use Rattle.tnc_drain.specs.Drain.{readerBox, hostBox, framesHeld, passed, allTaken, drained}
+use Rattle.tnc_host.specs.Bytes.{refused, onward, offered, kissWritten}
 use Rattle.tnc_host.specs.Promises.{Link, writtenAt, leftBy, afterWrite, Sound, RefusedKeepsAll, SoundStaysSound, NoneLeft, WrittenLeavesNone, NeverStuck, newLink, Writes, over, write, WritesObeyTheFrames}
-use Rattle.tnc_host.proofs.Drains.{drained-by}
+use Rattle.tnc_drain.proofs.Drains.{drained-by}
 use Rattle.tnc_host.proofs.Cases.{went}
 
 -- what holds of every refusal and of what the reader's answer leads to holds of what a write comes to

@@ -1,3 +1,2 @@
-pub mod Drains
 pub mod Cases
 pub mod Kept

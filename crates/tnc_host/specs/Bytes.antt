@@ -1,6 +1,6 @@
 -- What the TNC does with bytes from the host, from document 01's "The reader's meaning", "From the host", "Answer numbers" and "Bounds for 8". Assumes nothing.
 use Prim.Native.Nat.{ℕ}
-use mathlib.Core.List.{List, [], _∷_}
+use mathlib.Core.List.{List}
 use lib.Dec.{eqb}
 use lib.ListN.{length}
 use Rattle.choice.specs.Pick.{pick}
@@ -8,45 +8,16 @@ use Rattle.kiss_buffer.specs.declared.KissBuffer.{KissBuffer}
 use Rattle.kiss_buffer.specs.declared.WriteAnswer.{WriteAnswer}
 use Rattle.kiss_buffer.specs.declared.WriteAnswer.the-variants.{Done, Full, WrongStore, OutOfBounds}
 use Rattle.kiss_buffer.specs.declared.Written.{Written}
-use Rattle.kiss_reader.specs.Meaning.{framesOf}
-use Rattle.kiss_reader.specs.Reader.{STORE as READER, flush}
-use Rattle.kiss_buffer.specs.Calls.{readerOf, written}
-use Rattle.kiss_buffer.specs.Promises.{Box as ReaderBox, afterNextFrame}
+use Rattle.kiss_reader.specs.Reader.{STORE as READER}
+use Rattle.kiss_buffer.specs.Calls.{written}
+use Rattle.kiss_buffer.specs.Promises.{Box as ReaderBox}
 use Rattle.packets.specs.Queue.{STORE as PACKETS}
 use Rattle.streams.specs.Queue.{STORE as STREAMS}
 use Rattle.host_record.specs.declared.Host.{Host}
 use Rattle.host_record.specs.Host.{soundHost}
-use Rattle.host_frame.specs.Promises.{Box as HostBox, after}
+use Rattle.host_frame.specs.Promises.{Box as HostBox}
+use Rattle.tnc_drain.specs.Drain.{readerBox, hostBox, drained}
 use Rattle.tnc_host.specs.declared.KissWritten.{KissWritten}
-use Rattle.tnc_host.specs.declared.Drained.{Drained}
-
-abbrev pub readerBox : KissBuffer → List ℕ → ReaderBox
-readerBox b reader = record { buffer = b; store = reader }
-
-abbrev pub hostBox : Host → List ℕ → List ℕ → HostBox
-hostBox h packets streams = record { host = h; packets = packets; streams = streams }
-
--- the whole frames that the reader holds, but for one that was handed out
-unfoldable pub framesHeld : ReaderBox → List (List ℕ)
-framesHeld x = framesOf (flush (readerOf (x .buffer) (x .store)))
-
--- the reader once these were taken, and no other was found
-unfoldable pub passed : List (List ℕ) → ReaderBox → ReaderBox
-passed [] x = afterNextFrame x
-passed (f ∷ fs) x = passed fs (afterNextFrame x)
-
--- what these do, one after the other
-unfoldable pub allTaken : List (List ℕ) → HostBox → HostBox
-allTaken [] w = w
-allTaken (f ∷ fs) w = allTaken fs (after w f)
-
--- frames are taken until none is left
-unfoldable pub drained : ReaderBox → HostBox → Drained × List ℕ × List ℕ × List ℕ
-drained x w =
-    let y = passed (framesHeld x) x in let v = allTaken (framesHeld x) w in
-    (record { buffer = y .buffer; host = v .host }, y .store, v .packets, v .streams)
-
--- ---- the call
 
 abbrev pub refused : WriteAnswer → KissBuffer → Host → KissWritten
 refused a b h = record { answer = a; count = 0; buffer = b; host = h }

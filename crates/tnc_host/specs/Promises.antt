@@ -12,7 +12,8 @@ use Rattle.kiss_buffer.specs.Calls.{writeNumber}
 use Rattle.kiss_buffer.specs.Promises.{Box as ReaderBox, newBox, Sound as ReaderSound}
 use Rattle.host_frame.specs.Promises.{Box as HostBox, Sound as HostSound}
 use Rattle.tnc_host.specs.declared.KissWritten.{KissWritten}
-use Rattle.tnc_host.specs.Bytes.{readerBox, hostBox, framesHeld, allTaken, kissWritten}
+use Rattle.tnc_drain.specs.Drain.{readerBox, hostBox, framesHeld, allTaken}
+use Rattle.tnc_host.specs.Bytes.{kissWritten}
 
 -- the reader and what the host can change, each with its stores, as the last call left them
 pub record Link : Type 0 where

@@ -1,14 +1,15 @@
 // Bytes from the host, as m17core's write_kiss takes them: the reader cuts them into frames, and each is obeyed until none is left.
 use host_record::Host;
-use host_record::PACKET_STORE_LEN;
-use host_record::STREAM_STORE_LEN;
 use kiss_buffer::KissBuffer;
-use kiss_buffer::MAX_FRAME_LEN;
 use kiss_buffer::WriteAnswer;
+use link_ready::link_fits;
+use link_ready::was_taken;
+use tnc_drain::Drained;
 ghost use mathlib.Core.Path.{_≡_};
 ghost use Rattle.kiss_buffer.specs.Promises.{Sound};
 ghost use Rattle.host_frame.specs.Promises.{Sound as HostSound};
-ghost use Rattle.tnc_host.specs.Bytes.{readerBox, hostBox, drained, kissWritten};
+ghost use Rattle.tnc_drain.specs.Drain.{readerBox, hostBox, drained};
+ghost use Rattle.tnc_host.specs.Bytes.{kissWritten};
 
 pub struct KissWritten {
     pub answer: WriteAnswer,
@@ -16,11 +17,6 @@ pub struct KissWritten {
     pub count: usize,
     pub buffer: KissBuffer,
     pub host: Host,
-}
-
-struct Drained {
-    buffer: KissBuffer,
-    host: Host,
 }
 
 pub fn write_kiss(
@@ -33,37 +29,26 @@ pub fn write_kiss(
 ) -> KissWritten
     ensures { λ r. ⌜ (r, now (reader .exit), now (packets .exit), now (streams .exit)) ≡ kissWritten buffer host (now (buf .entry)) (now (reader .entry)) (now (packets .entry)) (now (streams .entry)) ⌝ }
 {
-    if reader.len() != MAX_FRAME_LEN {
-        return refuse(WriteAnswer::WrongStore, buffer, host);
-    }
-    if packets.len() != PACKET_STORE_LEN {
-        return refuse(WriteAnswer::WrongStore, buffer, host);
-    }
-    if streams.len() != STREAM_STORE_LEN {
+    if !link_fits(reader.len(), packets.len(), streams.len()) {
         return refuse(WriteAnswer::WrongStore, buffer, host);
     }
     if !host.is_sound() {
         return refuse(WriteAnswer::OutOfBounds, buffer, host);
     }
     let written = buffer.write(buf, reader);
-    let count = written.count;
-    let held = written.buffer;
     let answer = written.answer;
-    match answer {
-        WriteAnswer::Full => refuse(WriteAnswer::Full, held, host),
-        WriteAnswer::WrongStore => refuse(WriteAnswer::WrongStore, held, host),
-        WriteAnswer::OutOfBounds => refuse(WriteAnswer::OutOfBounds, held, host),
-        WriteAnswer::Done => {
-            let drained = take_frames(held, host, reader, packets, streams);
-            let rest = drained.buffer;
-            let after = drained.host;
-            KissWritten {
-                answer: WriteAnswer::Done,
-                count: count,
-                buffer: rest,
-                host: after,
-            }
-        }
+    let held = written.buffer;
+    if !was_taken(answer) {
+        return refuse(answer, held, host);
+    }
+    let drained = take_frames(held, host, reader, packets, streams);
+    let rest = drained.buffer;
+    let after = drained.host;
+    KissWritten {
+        answer: WriteAnswer::Done,
+        count: written.count,
+        buffer: rest,
+        host: after,
     }
 }
 

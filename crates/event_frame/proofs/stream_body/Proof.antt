@@ -8,7 +8,7 @@ use lib.ListN.{length, set, replicate, length-set}
 use lib.Seq.{sets, length-sets}
 use Rattle.store.proofs.Copies.{copied-in}
 use Rattle.streams.specs.Layout.{bytesOf}
-use Rattle.stream_push.proofs.Stored.{frame-stored}
+use Rattle.stream_bytes.proofs.Stored.{frame-stored}
 use Rattle.event_frame.proofs.stream_body.Statement.{statement}
 use Rattle.event_frame.proofs.stream_body.Tie as tie
 

@@ -12,8 +12,8 @@ use Rattle.kiss_buffer.specs.Promises.{Box as ReaderBox, afterNextFrame, Sound}
 use Rattle.host_frame.specs.declared.FrameTaken.{FrameTaken}
 use Rattle.host_frame.specs.Promises.{Box as HostBox, leftBy, after, Sound as HostSound}
 use Rattle.host_frame.proofs.Kept as host
-use Rattle.tnc_host.specs.Bytes.{readerBox, hostBox, drained}
-use Rattle.tnc_host.proofs.Drains.{searched, then-sound, then-shorter, then-ends, then-goes-on}
+use Rattle.tnc_drain.specs.Drain.{readerBox, hostBox, drained}
+use Rattle.tnc_drain.proofs.Drains.{searched, then-sound, then-shorter, then-ends, then-goes-on}
 use Rattle.tnc_host.proofs.take_frames.Statement.{statement}
 use Rattle.tnc_host.proofs.take_frames.Tie as tie
 

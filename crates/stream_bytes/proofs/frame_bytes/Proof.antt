@@ -1,4 +1,4 @@
--- `stream_push::frame_bytes` meets its contract. Assumes nothing.
+-- `stream_bytes::frame_bytes` meets its contract. Assumes nothing.
 use Prim.Native.Nat.{ℕ, _/_, _%_}
 use mathlib.Core.Path.{_≡_, sym, ap, _∙_}
 use mathlib.Core.List.{List}
@@ -10,9 +10,9 @@ use lib.ListN.{length, take, drop, getD, set, replicate, length-drop, length-set
 use lib.Seq.{sets, length-sets, length-take-le}
 use Rattle.store.proofs.Copies.{copied-in}
 use Rattle.protocol.specs.Lsf.{part}
-use Rattle.stream_push.proofs.Stored.{frame-stored, payload-stored}
-use Rattle.stream_push.proofs.frame_bytes.Statement.{statement}
-use Rattle.stream_push.proofs.frame_bytes.Tie as tie
+use Rattle.stream_bytes.proofs.Stored.{frame-stored, payload-stored}
+use Rattle.stream_bytes.proofs.frame_bytes.Statement.{statement}
+use Rattle.stream_bytes.proofs.frame_bytes.Tie as tie
 
 thirty : (c : tie.Start) → length (c .args .t1) ≡ 30
 thirty c = search needs

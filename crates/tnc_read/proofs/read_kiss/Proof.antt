@@ -1,4 +1,4 @@
--- `tnc::read_kiss` meets its contract. Assumes nothing.
+-- `tnc_read::read_kiss` meets its contract. Assumes nothing.
 use Prim.Native.Nat.{ℕ}
 use mathlib.Core.Path.{refl, ap, _∙_}
 use mathlib.Core.List.{List}
@@ -6,10 +6,10 @@ use borrow.Author.Needs.{needs}
 use borrow.Author.Tests.{eq-eqb, ne-eqb}
 use Rattle.choice.specs.Pick.{pick-yes, pick-no, not-yes, not-no}
 use Rattle.outgoing.specs.declared.HostRead.{HostRead}
-use Rattle.tnc.specs.declared.TncRead.{TncRead}
-use Rattle.tnc.specs.Calls.{hasRead, tncRead}
-use Rattle.tnc.proofs.read_kiss.Statement.{statement}
-use Rattle.tnc.proofs.read_kiss.Tie as tie
+use Rattle.tnc_read.specs.declared.TncRead.{TncRead}
+use Rattle.tnc_read.specs.Calls.{hasRead, tncRead}
+use Rattle.tnc_read.proofs.read_kiss.Statement.{statement}
+use Rattle.tnc_read.proofs.read_kiss.Tie as tie
 
 returns : tie.Need-returns
 unfolding tncRead

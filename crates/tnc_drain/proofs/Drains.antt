@@ -12,8 +12,8 @@ use Rattle.kiss_buffer.specs.Promises.{Box as ReaderBox, afterNextFrame, Drain,
 use Rattle.kiss_reader.proofs.Steps.{next-frames, search-frames, still-after, still-ends, next-shorter}
 use Rattle.kiss_buffer.proofs.Boxes.{reading, held-short, next-answer, next-reads, none-answered, some-answered, next-sound, next-frame}
 use Rattle.host_frame.specs.Promises.{Box as HostBox, after}
-use Rattle.tnc_host.specs.declared.Drained.{Drained}
-use Rattle.tnc_host.specs.Bytes.{framesHeld, passed, allTaken, drained}
+use Rattle.tnc_drain.specs.declared.Drained.{Drained}
+use Rattle.tnc_drain.specs.Drain.{framesHeld, passed, allTaken, drained}
 
 -- how many bytes there are to search
 abbrev pub searched : ReaderBox → ℕ

@@ -1,0 +1,8 @@
+// What is left once every whole frame that the reader holds was taken from it and obeyed. `tnc_host` does it.
+use host_record::Host;
+use kiss_buffer::KissBuffer;
+
+pub struct Drained {
+    pub buffer: KissBuffer,
+    pub host: Host,
+}
