@@ -1,33 +1,27 @@
--- Bytes of a frame after code has written two of them, and after its type was set. Assumes nothing.
-use mathlib.Core.Path.{_≡_, ap, _∙_}
-use mathlib.Core.List.{List, [], _∷_, _++_, append-nil, append-assoc}
-use Prim.Native.Nat.{ℕ, _+_, _/_, _%_, _≤_}
-use native.Mathlib.Nat.{div-add-mod'}
+-- Bytes of a frame after its type was set. Assumes nothing.
+use mathlib.Core.Path.{_≡_, ap, ap₂, _∙_}
+use mathlib.Core.List.{List, _∷_, _++_, append-assoc}
+use Prim.Native.Nat.{ℕ, _/_, _%_, _<_}
+use native.Mathlib.Nat.{div-add-mod', mod-eq-of-lt}
 use native.Mathlib.Omega.{arith}
-use lib.ListN.{length, take, drop, length-append, length-drop, drop-of-length-le}
-use lib.Seq.{sets, sets-eq, take-append-add, take-at, drop-at, drop-drop, getD-drop, length-take-le}
+use lib.ListN.{length, take, drop, length-append, length-drop}
+use lib.Seq.{take-at, drop-at, drop-drop, getD-drop, length-take-le}
 use Rattle.crc.specs.Crc.{twoBytes, crcOf, sealed}
-use Rattle.protocol.specs.Lsf.{Field, typeField, meta, withBitsAt, retyped, withField}
+use Rattle.protocol.specs.Lsf.{Field, typeField, meta, bitsAt, withBitsAt, fieldOf, retyped, withField}
 
--- a run of stores that reaches the end
-pub stored-last : (f e : List ℕ) (n : ℕ) → n + length e ≡ length f → sets f n e ≡ take n f ++ e
-stored-last f e n h =
-    let k : length f ≤ n + length e = omega arith in
-    sets-eq e f n (omega arith) ∙ ap (λ (r : List ℕ). take n f ++ e ++ r) (drop-of-length-le f k) ∙ append-nil (take n f ++ e)
-
-take-past : (p q : List ℕ) (m n : ℕ) → length p ≡ n → take (n + m) (p ++ q) ≡ p ++ take m q
-take-past p q m n e = rw (← e) (take-append-add p q m)
-
--- two stores in the middle, and the m bytes after them
-pub stored-mid : (f : List ℕ) (a b n m : ℕ) → n + 2 ≤ length f → take (n + 2 + m) (sets f n (a ∷ b ∷ [])) ≡ take n f ++ (a ∷ b ∷ []) ++ take m (drop (n + 2) f)
-stored-mid f a b n m h =
-    let l : length (take n f ++ (a ∷ b ∷ [])) ≡ n + 2 = length-append (take n f) (a ∷ b ∷ []) ∙ ap (λ (x : ℕ). x + 2) (length-take-le n f (omega arith)) in
-    rw (sets-eq (a ∷ b ∷ []) f n h) (take-past (take n f ++ (a ∷ b ∷ [])) (drop (n + 2) f) m (n + 2) l)
+-- what a getter's code does: it takes a run of bits of the type
+pub field-read : (f : List ℕ) (k : Field) {n t : ℕ} → n ≡ bitsAt k t → t ≡ typeField f → n ≡ fieldOf k f
+unfolding fieldOf
+field-read f k e h = e ∙ ap (bitsAt k) h
 
 -- what a setter's code does: it works out the new type, and has it put in
 pub set-type : {g : List ℕ} (f : List ℕ) (k : Field) (v t : ℕ) → g ≡ retyped t f → t ≡ withBitsAt k v (typeField f) → g ≡ withField k v f
 unfolding withField
 set-type f k v t e h = e ∙ ap (λ (x : ℕ). retyped x f) h
+
+-- the same where the code below takes the low bits of a number that is small
+pub set-bits : {g : List ℕ} (f : List ℕ) (k : Field) (v m : ℕ) {t u n : ℕ} → g ≡ retyped t f → t ≡ withBitsAt k (n % m) u → u ≡ typeField f → n ≡ v → v < m → g ≡ withField k v f
+set-bits f k v m {t} e a b c h = set-type f k v t e (a ∙ ap₂ (withBitsAt k) (ap (λ (x : ℕ). x % m) c ∙ mod-eq-of-lt h) b)
 
 -- ---- a frame whose type was set
 

@@ -1,9 +1,18 @@
 // The link setup frame: 30 bytes, of which 12 and 13 are the type field and the last two the CRC.
+use lsf_bits::channel_bits;
+use lsf_bits::data_type_bits;
+use lsf_bits::encryption_bits;
+use lsf_bits::mode_bits;
+use lsf_bits::with_channel;
+use lsf_bits::with_data_type;
+use lsf_bits::with_encryption;
+use lsf_bits::with_mode;
+use lsf_bytes::lsf_type;
+use lsf_bytes::with_type;
 ghost use mathlib.Core.Path.{_≡_};
 ghost use Prim.Native.Nat.{_%_};
-ghost use lib.ListN.{take};
-ghost use Rattle.crc.specs.Crc.{crcOf, sealed};
-ghost use Rattle.protocol.specs.Lsf.{typeField, meta, retyped, fieldOf, withField, modeBits, dataTypeBits, encryptionBits, channelBits};
+ghost use Rattle.crc.specs.Crc.{crcOf};
+ghost use Rattle.protocol.specs.Lsf.{meta, fieldOf, withField, modeBits, dataTypeBits, encryptionBits, channelBits};
 ghost use Rattle.protocol.specs.Kinds.{modeOf, modeNumber, dataTypeOf, dataTypeNumber, encryptionOf, encryptionNumber};
 ghost use Rattle.protocol.specs.Basic.{basicLsf};
 
@@ -81,7 +90,8 @@ impl LsfFrame {
     pub fn mode(self) -> Mode
         ensures { λ r. ⌜ r ≡ modeOf (fieldOf modeBits (self .0)) ⌝ }
     {
-        let bits = self.lsf_type() % 2;
+        let bytes = self.0;
+        let bits = mode_bits(lsf_type(bytes));
         match bits {
             0 => Mode::Packet,
             _ => Mode::Stream,
@@ -91,7 +101,8 @@ impl LsfFrame {
     pub fn data_type(self) -> DataType
         ensures { λ r. ⌜ r ≡ dataTypeOf (fieldOf dataTypeBits (self .0)) ⌝ }
     {
-        let bits = self.lsf_type() / 2 % 4;
+        let bytes = self.0;
+        let bits = data_type_bits(lsf_type(bytes));
         match bits {
             0 => DataType::Reserved,
             1 => DataType::Data,
@@ -103,7 +114,8 @@ impl LsfFrame {
     pub fn encryption_type(self) -> EncryptionType
         ensures { λ r. ⌜ r ≡ encryptionOf (fieldOf encryptionBits (self .0)) ⌝ }
     {
-        let bits = self.lsf_type() / 8 % 4;
+        let bytes = self.0;
+        let bits = encryption_bits(lsf_type(bytes));
         match bits {
             0 => EncryptionType::None,
             1 => EncryptionType::Scrambler,
@@ -115,76 +127,48 @@ impl LsfFrame {
     pub fn channel_access_number(self) -> u8
         ensures { λ r. ⌜ r ≡ fieldOf channelBits (self .0) ⌝ }
     {
-        (self.lsf_type() / 128 % 16) as u8
+        let bytes = self.0;
+        channel_bits(lsf_type(bytes))
     }
 
     pub fn meta(self) -> [u8; 14]
         ensures { λ r. ⌜ r ≡ meta (self .0) ⌝ }
     {
         let bytes = self.0;
-        let mut out = [0u8; 14];
-        store::copy_in(&bytes[14..28], &mut out, 0);
-        out
+        lsf_bytes::meta(bytes)
     }
 
-    pub fn set_mode(mut self, mode: Mode) -> Self
+    pub fn set_mode(self, mode: Mode) -> Self
         ensures { λ r. ⌜ r .0 ≡ withField modeBits (modeNumber mode) (self .0) ⌝ }
     {
-        let t = self.lsf_type();
-        self = self.with_type(t / 2 * 2 + mode_number(mode));
-        self
+        let bytes = self.0;
+        let t = with_mode(lsf_type(bytes), mode_number(mode));
+        LsfFrame(with_type(bytes, t))
     }
 
-    pub fn set_data_type(mut self, kind: DataType) -> Self
+    pub fn set_data_type(self, kind: DataType) -> Self
         ensures { λ r. ⌜ r .0 ≡ withField dataTypeBits (dataTypeNumber kind) (self .0) ⌝ }
     {
-        let t = self.lsf_type();
-        self = self.with_type(t / 8 * 8 + data_type_number(kind) * 2 + t % 2);
-        self
+        let bytes = self.0;
+        let t = with_data_type(lsf_type(bytes), data_type_number(kind));
+        LsfFrame(with_type(bytes, t))
     }
 
-    pub fn set_encryption_type(mut self, kind: EncryptionType) -> Self
+    pub fn set_encryption_type(self, kind: EncryptionType) -> Self
         ensures { λ r. ⌜ r .0 ≡ withField encryptionBits (encryptionNumber kind) (self .0) ⌝ }
     {
-        let t = self.lsf_type();
-        self = self.with_type(t / 32 * 32 + encryption_number(kind) * 8 + t % 8);
-        self
+        let bytes = self.0;
+        let t = with_encryption(lsf_type(bytes), encryption_number(kind));
+        LsfFrame(with_type(bytes, t))
     }
 
     // The number's low four bits are taken.
-    pub fn set_channel_access_number(mut self, number: u8) -> Self
+    pub fn set_channel_access_number(self, number: u8) -> Self
         ensures { λ r. ⌜ r .0 ≡ withField channelBits (number % 16) (self .0) ⌝ }
     {
-        let bits = (number as u16) % 16;
-        let t = self.lsf_type();
-        self = self.with_type(t / 2048 * 2048 + bits * 128 + t % 128);
-        self
-    }
-
-    fn lsf_type(self) -> u16
-        ensures { λ r. ⌜ r ≡ typeField (self .0) ⌝ }
-    {
         let bytes = self.0;
-        (bytes[12] as u16) * 256 + (bytes[13] as u16)
-    }
-
-    // The frame with that type field, and its CRC renewed.
-    fn with_type(mut self, bits: u16) -> Self
-        ensures { λ r. ⌜ r .0 ≡ retyped bits (self .0) ⌝ }
-    {
-        self.0[12] = (bits / 256) as u8;
-        self.0[13] = (bits % 256) as u8;
-        self.recalculate_crc()
-    }
-
-    fn recalculate_crc(mut self) -> Self
-        ensures { λ r. ⌜ r .0 ≡ sealed (take 28 (self .0)) ⌝ }
-    {
-        let bytes = self.0;
-        let crc = crc::m17_crc(&bytes[..28]);
-        self.0[28] = (crc / 256) as u8;
-        self.0[29] = (crc % 256) as u8;
-        self
+        let t = with_channel(lsf_type(bytes), number as u16);
+        LsfFrame(with_type(bytes, t))
     }
 }
 

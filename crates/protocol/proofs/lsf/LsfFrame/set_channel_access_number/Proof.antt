@@ -1,4 +1,6 @@
 -- `protocol::lsf::LsfFrame::set_channel_access_number` meets its contract. Assumes nothing.
+use Prim.Native.Nat.{_%_}
+use mathlib.Core.Path.{ap, _∙_}
 use borrow.Author.Needs.{needs}
 use Rattle.protocol.specs.Lsf.{channelBits, withBitsAt}
 use Rattle.protocol.proofs.Frames.{set-type}
@@ -6,17 +8,9 @@ use Rattle.protocol.proofs.lsf.LsfFrame.set_channel_access_number.State
 use Rattle.protocol.proofs.lsf.LsfFrame.set_channel_access_number.Tie as tie
 
 returns : tie.Need-returns
-unfolding withBitsAt
-returns c = set-type _ channelBits _ _ (c .with-type .ensures) (rw (← c .before .lsf-type .ensures))
+returns c =
+    let w = c .before in let l = w .before in let a = l .before .before .args in
+    set-type (a .self .0) channelBits (a .number % 16) (w .with-channel .result) (c .with-type .ensures) (w .with-channel .ensures ∙ ap (withBitsAt channelBits (a .number % 16)) (l .lsf-type .ensures))
 
 pub set-channel-access-number-spec : {M : Type 1} → statement M
-set-channel-access-number-spec =
-    tie.close
-    (tie.spec
-    (λ c κs. search needs)
-    (λ c. search needs)
-    (λ c. search needs)
-    (λ c. search needs)
-    (λ c. search needs)
-    (λ c κs. search needs)
-    returns)
+set-channel-access-number-spec = tie.close (tie.spec (λ c κs. search needs) (λ c κs. search needs) (λ c κs. search needs) returns)

@@ -1,0 +1,20 @@
+-- The layout of the link setup frame (LSF), from the M17 protocol specification.
+-- 30 bytes: destination 0-5, source 6-11, type 12-13 (high byte first), meta 14-27, CRC 28-29. Assumes nothing.
+use Prim.Native.Nat.{ℕ, _+_, _*_}
+use mathlib.Core.List.{List, _++_}
+use lib.ListN.{take, drop, getD}
+use Rattle.crc.specs.Crc.{twoBytes, sealed}
+
+-- n bytes from place `from` on
+abbrev pub part : ℕ → ℕ → List ℕ → List ℕ
+part from n f = take n (drop from f)
+
+unfoldable pub typeField : List ℕ → ℕ
+typeField f = getD f 12 0 * 256 + getD f 13 0
+
+unfoldable pub meta : List ℕ → List ℕ
+meta f = part 14 14 f
+
+-- the frame with another type, and its CRC renewed
+unfoldable pub retyped : ℕ → List ℕ → List ℕ
+retyped t f = sealed (take 12 f ++ twoBytes t ++ meta f)

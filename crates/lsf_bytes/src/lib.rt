@@ -1,0 +1,37 @@
+// An LSF's bytes: its type field, its meta field, and the bytes with another type and the CRC renewed.
+ghost use mathlib.Core.Path.{_≡_};
+ghost use lib.ListN.{take};
+ghost use Rattle.crc.specs.Crc.{sealed};
+ghost use Rattle.lsf_bytes.specs.Bytes.{typeField, meta, retyped};
+
+pub fn lsf_type(bytes: [u8; 30]) -> u16
+    ensures { λ r. ⌜ r ≡ typeField bytes ⌝ }
+{
+    (bytes[12] as u16) * 256 + (bytes[13] as u16)
+}
+
+pub fn meta(bytes: [u8; 30]) -> [u8; 14]
+    ensures { λ r. ⌜ r ≡ meta bytes ⌝ }
+{
+    let mut out = [0u8; 14];
+    store::copy_in(&bytes[14..28], &mut out, 0);
+    out
+}
+
+// The bytes with that type field, and the CRC renewed.
+pub fn with_type(mut bytes: [u8; 30], bits: u16) -> [u8; 30]
+    ensures { λ r. ⌜ r ≡ retyped bits bytes ⌝ }
+{
+    bytes[12] = (bits / 256) as u8;
+    bytes[13] = (bits % 256) as u8;
+    recalculate_crc(bytes)
+}
+
+fn recalculate_crc(mut bytes: [u8; 30]) -> [u8; 30]
+    ensures { λ r. ⌜ r ≡ sealed (take 28 bytes) ⌝ }
+{
+    let crc = crc::m17_crc(&bytes[..28]);
+    bytes[28] = (crc / 256) as u8;
+    bytes[29] = (crc % 256) as u8;
+    bytes
+}
