@@ -1,7 +1,6 @@
-// Channel access, as m17core's tnc.rs has it: clock, carrier, a check that waits, and duplex.
-ghost use mathlib.Core.Bool.{true};
+// The channel, as m17core's tnc.rs has it: clock, carrier, a check that waits, and duplex. `channel_access` says whether one may send.
 ghost use mathlib.Core.Path.{_≡_};
-ghost use Rattle.channel.specs.Access.{newChannel, soundChannel, clockSet, carrierSet, duplexSet, checkLater, checkDue, accessed};
+ghost use Rattle.channel.specs.Access.{newChannel, soundChannel, clockSet, carrierSet, duplexSet};
 
 #[repr(C)]
 pub struct Channel {
@@ -26,6 +25,7 @@ pub struct ChannelSet {
     pub channel: Channel,
 }
 
+// What `channel_access` answers is declared here, since the definitions and promises of specs/ speak of it too.
 pub enum AccessAnswer {
     Sends,
     Waits,
@@ -40,7 +40,7 @@ pub struct Accessed {
 // The latest time that a clock may show, and the time between two checks.
 const LAST: u64 = 4611686018427387904;
 
-const SLOT: u64 = 1920;
+pub const SLOT: u64 = 1920;
 
 impl Channel {
     pub fn new() -> Self
@@ -114,70 +114,6 @@ impl Channel {
         self.duplex = full_duplex;
         ChannelSet {
             answer: ChannelAnswer::Done,
-            channel: self,
-        }
-    }
-
-    // May somebody who has something to send start now? If not, a check waits.
-    pub fn access(self) -> Accessed
-        ensures { λ r. ⌜ r ≡ accessed self ⌝ }
-    {
-        if !self.is_sound() {
-            return Accessed {
-                answer: AccessAnswer::OutOfBounds,
-                channel: self,
-            };
-        }
-        if self.duplex {
-            return Accessed {
-                answer: AccessAnswer::Sends,
-                channel: self,
-            };
-        }
-        if self.waits {
-            return self.check_due();
-        }
-        if self.carrier {
-            return self.check_later();
-        }
-        Accessed {
-            answer: AccessAnswer::Sends,
-            channel: self,
-        }
-    }
-
-    // A check is pending. One time in four that it is due and finds the channel clear it sends, so that two boxes which wait for the same end do not both start.
-    fn check_due(mut self) -> Accessed
-        requires { ⌜ soundChannel self ≡ true ⌝ }
-        ensures { λ r. ⌜ r ≡ checkDue self ⌝ }
-    {
-        if self.clock < self.check {
-            return Accessed {
-                answer: AccessAnswer::Waits,
-                channel: self,
-            };
-        }
-        if self.carrier {
-            return self.check_later();
-        }
-        if self.clock % 4 != 3 {
-            return self.check_later();
-        }
-        self.waits = false;
-        Accessed {
-            answer: AccessAnswer::Sends,
-            channel: self,
-        }
-    }
-
-    fn check_later(mut self) -> Accessed
-        requires { ⌜ soundChannel self ≡ true ⌝ }
-        ensures { λ r. ⌜ r ≡ checkLater self ⌝ }
-    {
-        self.waits = true;
-        self.check = self.clock + SLOT;
-        Accessed {
-            answer: AccessAnswer::Waits,
             channel: self,
         }
     }

@@ -140,7 +140,7 @@ fn waiting_until(clock: u64, carrier: bool, waits: bool, check: u64) -> Channel 
 
 fn channel_line(name: &[u8], before: Channel) {
     io::write_all(STDOUT_FILENO, name);
-    let after = before.access();
+    let after = channel_access::access(before);
     let answer = after.answer;
     match answer {
         AccessAnswer::Sends => {

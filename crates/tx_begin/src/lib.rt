@@ -19,7 +19,7 @@ pub fn begin(state: State, sending: Sending, channel: Channel) -> TxRead
     if !sending.wants_to_send() {
         return unfilled(TxAnswer::Nothing, state, sending, channel);
     }
-    let access = channel.access();
+    let access = channel_access::access(channel);
     let after = access.channel;
     let answer = access.answer;
     match answer {

@@ -1,9 +1,9 @@
--- `channel::Channel::access` meets its contract. Assumes nothing.
+-- `channel_access::access` meets its contract. Assumes nothing.
 use borrow.Author.Needs.{needs}
 use Rattle.choice.specs.Pick.{callees}
 use Rattle.channel.specs.Access.{accessed}
-use Rattle.channel.proofs.Channel.access.Statement.{statement}
-use Rattle.channel.proofs.Channel.access.Tie as tie
+use Rattle.channel_access.proofs.access.Statement.{statement}
+use Rattle.channel_access.proofs.access.Tie as tie
 
 returns : tie.Need-returns
 unfolding accessed
