@@ -13,14 +13,14 @@ use Rattle.choice.specs.Pick.{pick, and, and-both}
 use Rattle.any_calls.specs.Calls.{World}
 use Rattle.event_line.specs.declared.Line.{Line}
 use Rattle.event_line.specs.declared.Line.the-variants.{Wrote}
-use Rattle.event_line.specs.declared.Next.{Next}
-use Rattle.event_line.specs.declared.Next.the-variants.{Complete, Cut, Unknown, End}
-use Rattle.event_line.specs.Events.{known, bodyLen, nextAt}
+use Rattle.event_input.specs.declared.Next.{Next}
+use Rattle.event_input.specs.declared.Next.the-variants.{Complete, Cut, Unknown, End}
+use Rattle.event_input.specs.Events.{known, bodyLen, nextAt}
 use Rattle.event_line.specs.Line.{lineOf, written}
-use Rattle.event_line.specs.Promises.{Whole}
+use Rattle.event_input.specs.Promises.{Whole}
 use Rattle.event_line.proofs.Lines.{written-yes}
-use Rattle.event_call.specs.declared.Applied.{Applied}
-use Rattle.event_call.specs.Answer.{MOST}
+use Rattle.event_answer.specs.declared.Applied.{Applied}
+use Rattle.event_answer.specs.Answer.{MOST}
 use Rattle.event_step.specs.Step.{Turn, applied, worldOf, turnOf}
 use Rattle.event_block.specs.Block.{LINE, Spot, spot, shown, lineFor, behind, turned, Block, block, complete, ready, walk, placeAfter}
 use Rattle.event_block.proofs.Numbers.{one-digit, line-fits}

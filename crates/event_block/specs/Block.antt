@@ -9,9 +9,9 @@ use Rattle.choice.specs.Pick.{pick, and}
 use Rattle.any_calls.specs.Calls.{World}
 use Rattle.event_line.specs.declared.Line.{Line}
 use Rattle.event_line.specs.declared.Line.the-variants.{Wrote, NumberOver9, NoRoom}
-use Rattle.event_line.specs.Events.{known, bodyLen}
+use Rattle.event_input.specs.Events.{known, bodyLen}
 use Rattle.event_line.specs.Line.{lineOf, written}
-use Rattle.event_call.specs.Answer.{MOST}
+use Rattle.event_answer.specs.Answer.{MOST}
 use Rattle.event_step.specs.Step.{Turn, applied}
 
 -- the most bytes of a line

@@ -1,12 +1,12 @@
 // The events of a block of input, each applied and its line written, and what is printed where the input ends.
-use event_call::EventBox;
-use event_call::MOST_BYTES;
+use event_answer::EventBox;
+use event_answer::MOST_BYTES;
 use event_line::Line;
-use event_line::Next;
+use event_input::Next;
 ghost use mathlib.Core.Path.{_≡_};
 ghost use Prim.Native.Nat.{_+_, _≤_, min};
 ghost use lib.ListN.{length};
-ghost use Rattle.event_call.specs.Answer.{MOST, keyed};
+ghost use Rattle.event_answer.specs.Answer.{MOST, keyed};
 ghost use Rattle.event_step.specs.Step.{worldOf};
 ghost use Rattle.event_block.specs.Block.{LINE, placeAfter, spot, turned, walk, block, blockRun, lastLine};
 
@@ -74,7 +74,7 @@ fn run_events(
     let mut at = 0;
     let mut wrote = 0;
     while LINE_LEN <= dst.len() - wrote {
-        let Next::Complete { kind, start, next } = event_line::next_event(src, at) else {
+        let Next::Complete { kind, start, next } = event_input::next_event(src, at) else {
             break;
         };
         let turn = step(
@@ -172,7 +172,7 @@ pub fn last_line(before: EventBox, rest: &[u8], dst: &mut [u8]) -> usize
     if rest.len() == 0 {
         return 0;
     }
-    let refused = event_call::refuse(before);
+    let refused = event_answer::refuse(before);
     let line = event_line::put_line(rest[0], refused.number, refused.ptt, b"", dst, 0);
     place_after(line, 0)
 }

@@ -1,8 +1,8 @@
 // The event program's run: events on standard input, a line for each on standard output. Input and output go in blocks of 64 KiB, so that an input of any length takes the
 // same memory and one read and write serve thousands of events.
 use channel::Channel;
-use event_call::EventBox;
-use event_line::Next;
+use event_answer::EventBox;
+use event_input::Next;
 use libc::STDIN_FILENO;
 use libc::STDOUT_FILENO;
 use tnc_core::Tnc;
@@ -116,7 +116,7 @@ fn turn(
         };
     }
     let left: &[u8] = input;
-    if let Next::Unknown(_) = event_line::next_event(&left[..held], at) {
+    if let Next::Unknown(_) = event_input::next_event(&left[..held], at) {
         finish(station, &left[at..held]);
         return stopped;
     }

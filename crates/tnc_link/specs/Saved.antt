@@ -8,8 +8,8 @@ use Rattle.channel.specs.Access.{newChannel}
 use Rattle.state.specs.declared.State.{State}
 use Rattle.state.specs.declared.State.the-variants.{Idle, RxAcquiringStream, RxStream, RxPacket, TxStream, TxStreamSentEndOfStream, TxPacket, TxEnding, TxEndingAtTime}
 use Rattle.tnc_core.specs.Tnc.{newTnc}
-use Rattle.event_call.specs.declared.EventBox.{EventBox}
-use Rattle.event_call.specs.declared.Applied.{Applied}
+use Rattle.event_answer.specs.declared.EventBox.{EventBox}
+use Rattle.event_answer.specs.declared.Applied.{Applied}
 use Rattle.event_step.specs.Step.{Turn, applied, worldOf}
 use Rattle.tnc_link.specs.declared.Saved.{Saved}
 use Rattle.tnc_link.specs.declared.EventAnswer.{EventAnswer}

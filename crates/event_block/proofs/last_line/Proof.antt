@@ -8,8 +8,8 @@ use borrow.Author.Needs.{needs}
 use lib.ListN.{length, getD}
 use Rattle.event_line.specs.declared.Line.{Line}
 use Rattle.event_line.specs.Line.{written}
-use Rattle.event_call.specs.declared.Applied.{Applied}
-use Rattle.event_call.specs.Answer.{keyed}
+use Rattle.event_answer.specs.declared.Applied.{Applied}
+use Rattle.event_answer.specs.Answer.{keyed}
 use Rattle.event_block.specs.Block.{placeAfter, lastLine}
 use Rattle.event_block.proofs.last_line.Statement.{statement}
 use Rattle.event_block.proofs.last_line.Tie as tie

@@ -5,7 +5,7 @@ use borrow.Author.Needs.{needs}
 use borrow.Author.Tests.{le-leb, lt-leb}
 use lib.ListN.{length}
 use Rattle.choice.specs.Pick.{pick-yes, pick-no}
-use Rattle.event_call.specs.Answer.{MOST}
+use Rattle.event_answer.specs.Answer.{MOST}
 use Rattle.event_block.specs.Block.{blockRun}
 use Rattle.event_block.proofs.run_block.Statement.{statement}
 use Rattle.event_block.proofs.run_block.Tie as tie

@@ -8,12 +8,12 @@ use mathlib.Core.List.{List, [], _∷_}
 use native.Mathlib.Omega.{arith}
 use borrow.Author.Needs.{needs}
 use lib.ListN.{length, drop}
-use Rattle.event_line.proofs.Next.{the-type}
-use Rattle.event_line.specs.declared.Next.{Next}
-use Rattle.event_line.specs.declared.Next.the-variants.{Complete, Cut, Unknown, End}
-use Rattle.event_line.specs.Promises.{Whole}
-use Rattle.event_line.proofs.Kept.{complete-is-whole}
-use Rattle.event_call.specs.Answer.{MOST}
+use Rattle.event_input.proofs.Next.{the-type}
+use Rattle.event_input.specs.declared.Next.{Next}
+use Rattle.event_input.specs.declared.Next.the-variants.{Complete, Cut, Unknown, End}
+use Rattle.event_input.specs.Promises.{Whole}
+use Rattle.event_input.proofs.Kept.{complete-is-whole}
+use Rattle.event_answer.specs.Answer.{MOST}
 use Rattle.event_step.specs.Step.{worldOf}
 use Rattle.event_block.specs.Block.{spot, walk}
 use Rattle.event_block.proofs.Blocks.{walk-full, stops, isWhole, on}
