@@ -150,7 +150,7 @@ fn fill(input: &mut [u8], held: usize) -> usize
 // What is printed at the end of the input, or at a kind that is not known.
 fn finish(station: EventBox, rest: &[u8]) {
     let mut line = [0u8; 8];
-    let count = event_block::last_line(station, rest, &mut line);
+    let count = event_end::last_line(station, rest, &mut line);
     if count <= 8 {
         io::write_all(STDOUT_FILENO, &line[..count]);
     }

@@ -1,4 +1,4 @@
--- `event_block::last_line` meets its contract. Assumes nothing.
+-- `event_end::last_line` meets its contract. Assumes nothing.
 use Prim.Native.Nat.{ℕ}
 use mathlib.Core.Bool.{Bool}
 use mathlib.Core.Path.{_≡_, refl, sym, ap, _∙_}
@@ -10,9 +10,9 @@ use Rattle.event_line.specs.declared.Line.{Line}
 use Rattle.event_line.specs.Line.{written}
 use Rattle.event_answer.specs.declared.Applied.{Applied}
 use Rattle.event_answer.specs.Answer.{keyed}
-use Rattle.event_block.specs.Block.{placeAfter, lastLine}
-use Rattle.event_block.proofs.last_line.Statement.{statement}
-use Rattle.event_block.proofs.last_line.Tie as tie
+use Rattle.event_end.specs.End.{placeAfter, lastLine}
+use Rattle.event_end.proofs.last_line.Statement.{statement}
+use Rattle.event_end.proofs.last_line.Tie as tie
 
 nothing : (s : List ℕ) (on : Bool) (d : List ℕ) → length s ≡ 0 → (0, d) ≡ lastLine s on d
 unfolding lastLine
