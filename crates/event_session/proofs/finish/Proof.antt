@@ -1,10 +1,10 @@
--- `event_run::finish` meets its contract. Assumes nothing.
+-- `event_session::finish` meets its contract. Assumes nothing.
 use mathlib.Core.Path.{sym}
 use native.Mathlib.Omega.{arith}
 use borrow.Author.Needs.{needs}
 use lib.Seq.{length-take-le}
-use Rattle.event_run.proofs.finish.Statement.{statement}
-use Rattle.event_run.proofs.finish.Tie as tie
+use Rattle.event_session.proofs.finish.Statement.{statement}
+use Rattle.event_session.proofs.finish.Tie as tie
 
 slice-aggregate-write-all : tie.Need-slice-aggregate-write-all
 slice-aggregate-write-all c = sym (length-take-le _ _ (omega (arith, c .before .if1 .taken, c .before .before .before .last-line .kept .1 .1 .0)))
