@@ -1,5 +1,5 @@
 -- Laws of one event's turn and of walking over a block. Assumes nothing.
-use Prim.Native.Nat.{ℕ, zero, suc, _+_, _-_, _*_, _<_, _≤_, min}
+use Prim.Native.Nat.{ℕ, zero, suc, _+_, _-_, _*_, _<_, _≤_}
 use mathlib.Core.Bool.{Bool, true, false, false≢true}
 use mathlib.Core.Path.{_≡_, refl, sym, ap, _∙_}
 use mathlib.Core.List.{List, [], _∷_, _++_}
@@ -12,47 +12,32 @@ use lib.Seq.{sets, drop-cons, drop-drop}
 use Rattle.choice.specs.Pick.{pick, and, and-both}
 use Rattle.any_calls.specs.Calls.{World}
 use Rattle.event_line.specs.declared.Line.{Line}
-use Rattle.event_line.specs.declared.Line.the-variants.{Wrote}
-use Rattle.event_line.specs.declared.Next.{Next}
-use Rattle.event_line.specs.declared.Next.the-variants.{Complete, Cut, Unknown, End}
-use Rattle.event_line.specs.Events.{known, bodyLen, nextAt}
-use Rattle.event_line.specs.Line.{lineOf, written}
-use Rattle.event_line.specs.Promises.{Whole}
+use Rattle.event_input.specs.declared.Next.{Next}
+use Rattle.event_input.specs.declared.Next.the-variants.{Complete, Cut, Unknown, End}
+use Rattle.event_input.specs.Events.{known, bodyLen, nextAt}
+use Rattle.event_input.specs.Promises.{Whole}
 use Rattle.event_line.proofs.Lines.{written-yes}
-use Rattle.event_call.specs.declared.Applied.{Applied}
-use Rattle.event_call.specs.Answer.{MOST}
-use Rattle.event_step.specs.Step.{Turn, applied, worldOf, turnOf}
-use Rattle.event_block.specs.Block.{LINE, Spot, spot, shown, lineFor, behind, turned, Block, block, complete, ready, walk, placeAfter}
+use Rattle.event_step.specs.Step.{applied}
+use Rattle.event_end.specs.End.{placeAfter}
+use Rattle.event_turn.specs.Spot.{Spot, spot, shown, stepped}
+use Rattle.event_block.specs.Block.{LINE, lineFor, turned, Block, block, complete, ready, walk}
 use Rattle.event_block.proofs.Numbers.{one-digit, line-fits}
 
 -- ---- one event and its line
 
-module _ (k : ℕ) (b : List ℕ) (w : World) (room : List ℕ) (a : Applied) (r p s rx m y d : List ℕ) (n : ℕ) (e : turnOf a r p s rx m y ≡ applied k b w room) (fits : n + LINE ≤ length d) where
-  line : List ℕ
-  line = lineFor k (turnOf a r p s rx m y)
+module _ (k : ℕ) (b : List ℕ) (p : Spot) (fits : p .wrote + LINE ≤ length (p .room)) where
+  steps : stepped k b p ≡ turned k b p
+  unfolding stepped turned
+  steps =
+      let t = applied k b (p .world) (p .bytes) in
+      ap (λ (u : Line × List ℕ). spot (t .world) (t .bytes) (u .1) (placeAfter (u .0) (p .wrote))) (sym (written-yes k (t .number) (t .ptt) (shown t) (p .room) (p .wrote) (one-digit k b (p .world) (p .bytes)) (omega (arith, line-fits k t))))
 
-  digit : a .number ≤ 9
-  digit = let q : a .number ≡ applied k b w room .number = ap (λ (t : Turn). t .number) e in omega (arith, q, one-digit k b w room)
+  long : turned k b p .wrote ≤ p .wrote + LINE
+  unfolding turned
+  long = omega (arith, line-fits k (applied k b (p .world) (p .bytes)))
 
-  laid : (l : Line) (x : List ℕ) (c : ℕ) → c ≡ min (a .count) MOST → (l, x) ≡ written k (a .number) (a .ptt) (take c y) d n → _≡_ {A = Line × List ℕ} (l, x) (Wrote (n + length line), sets d n line)
-  unfolding line
-  laid l x c q f =
-      f
-      ∙ ap (λ (i : ℕ). written k (a .number) (a .ptt) (take i y) d n) q
-      ∙ sym (written-yes k (a .number) (a .ptt) (shown (turnOf a r p s rx m y)) d n digit (omega (arith, line-fits k (turnOf a r p s rx m y))))
-
-  pub turn-is : (l : Line) (x : List ℕ) (c z : ℕ) → c ≡ min (a .count) MOST → (l, x) ≡ written k (a .number) (a .ptt) (take c y) d n → z ≡ placeAfter l n → spot (worldOf (a .after) r p s rx m) y x z ≡ turned k b (spot w room d n)
-  unfolding turned line
-  turn-is l x c z q f g =
-      (λ j. spot (worldOf (a .after) r p s rx m) y x (g j))
-      ∙ ap (λ (u : Line × List ℕ). spot (worldOf (a .after) r p s rx m) y (u .1) (placeAfter (u .0) n)) (laid l x c q f)
-      ∙ ap (λ (t : Turn). behind k t d n) e
-
-  pub turn-most : (l : Line) (x : List ℕ) (c z : ℕ) → c ≡ min (a .count) MOST → (l, x) ≡ written k (a .number) (a .ptt) (take c y) d n → z ≡ placeAfter l n → z ≤ n + LINE
-  unfolding line
-  turn-most l x c z q f g =
-      let there : placeAfter l n ≡ n + length (lineFor k (turnOf a r p s rx m y)) = ap (λ (u : Line × List ℕ). placeAfter (u .0) n) (laid l x c q f) in
-      omega (arith, g, there, line-fits k (turnOf a r p s rx m y))
+  pub steps-most : (n : ℕ) → n ≡ stepped k b p .wrote → n ≤ p .wrote + LINE
+  steps-most n e = let f : n ≡ turned k b p .wrote = e ∙ ap (λ (q : Spot). q .wrote) steps in omega (arith, f, long)
 
 -- ---- walking
 
@@ -143,11 +128,11 @@ stops s i p = by (ltb i (length s)) refl (known (getD s i 0)) refl (leb (bodyLen
 
 -- ---- one turn of the block's loop
 
-pub on : (s : List ℕ) (i k a e : ℕ) (p q : Spot) → Whole s i k a e → LINE ≤ length (p .room) - p .wrote → q ≡ turned k (take (e - a) (drop a s)) p → walk 0 (drop e s) e q ≡ walk 0 (drop i s) i p
-on s i k a e p q w room f =
+pub on : (s : List ℕ) (i k a e : ℕ) (p q : Spot) → Whole s i k a e → LINE ≤ length (p .room) - p .wrote → p .wrote ≤ length (p .room) → q ≡ stepped k (take (e - a) (drop a s)) p → walk 0 (drop e s) e q ≡ walk 0 (drop i s) i p
+on s i k a e p q w room held f =
     let len : e - a ≡ bodyLen (getD s i 0) = omega (arith, w .ends, w .starts) in
     let rest : length (drop (i + 1) s) ≡ length s - (i + 1) = length-drop (i + 1) s in
     let fits : bodyLen (getD s i 0) ≤ length (drop (i + 1) s) = omega (arith, w .ends, w .within, rest) in
     let go : ready (getD s i 0) (drop (i + 1) s) p ≡ true = is-ready (getD s i 0) (drop (i + 1) s) p room (w .is-known) fits in
-    let g : q ≡ turned (getD s i 0) (take (bodyLen (getD s i 0)) (drop (i + 1) s)) p = f ∙ rw (len, w .kind-is, w .starts) in
+    let g : q ≡ turned (getD s i 0) (take (bodyLen (getD s i 0)) (drop (i + 1) s)) p = f ∙ steps k (take (e - a) (drop a s)) p (omega (arith, room, held)) ∙ rw (len, w .kind-is, w .starts) in
     rw (w .ends, g) (sym (walk-yes s i p (w .inside) go))

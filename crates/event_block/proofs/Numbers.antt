@@ -29,7 +29,8 @@ use Rattle.any_calls.specs.Calls.{World, Call, writeKiss, readKiss, handleLsf, 
 use Rattle.event_line.specs.Line.{lineOf}
 use Rattle.event_line.proofs.Lines.{line-most}
 use Rattle.event_step.specs.Step.{Turn, callOf, numberOf, made, notMade, perhaps, applied}
-use Rattle.event_block.specs.Block.{LINE, lineFor, shown}
+use Rattle.event_turn.specs.Spot.{shown}
+use Rattle.event_block.specs.Block.{LINE, lineFor}
 
 write-digit : (a : WriteAnswer) → writeNumber a ≤ 9
 write-digit Written = omega arith

@@ -1,5 +1,5 @@
--- One event's line, the events of a block, and what is printed where the input ends, from document 01's "Event program" and its answer 9. Assumes nothing.
-use Prim.Native.Nat.{ℕ, zero, suc, _+_, _-_, min}
+-- One event's line in a room for it, the events of a block, and what is printed where the input ends, from document 01's "Event program" and its answer 9. Assumes nothing.
+use Prim.Native.Nat.{ℕ, zero, suc, _+_, _-_}
 use mathlib.Core.Bool.{Bool}
 use mathlib.Core.List.{List, [], _∷_}
 use lib.Dec.{leb}
@@ -7,32 +7,17 @@ use lib.ListN.{length, take}
 use lib.Seq.{sets}
 use Rattle.choice.specs.Pick.{pick, and}
 use Rattle.any_calls.specs.Calls.{World}
-use Rattle.event_line.specs.declared.Line.{Line}
-use Rattle.event_line.specs.declared.Line.the-variants.{Wrote, NumberOver9, NoRoom}
-use Rattle.event_line.specs.Events.{known, bodyLen}
-use Rattle.event_line.specs.Line.{lineOf, written}
-use Rattle.event_call.specs.Answer.{MOST}
+use Rattle.event_input.specs.Events.{known, bodyLen}
+use Rattle.event_line.specs.Line.{lineOf}
+use Rattle.event_answer.specs.Answer.{MOST}
 use Rattle.event_step.specs.Step.{Turn, applied}
+use Rattle.event_turn.specs.Spot.{Spot, spot, shown}
 
 -- the most bytes of a line
 abbrev pub LINE : ℕ
 LINE = 518
 
--- where the lines stand: the world, the room that events put bytes into, the room of the lines and how much of it is written
-pub record Spot : Type 0 where
-  pub world : World
-  pub bytes : List ℕ
-  pub room : List ℕ
-  pub wrote : ℕ
-
-abbrev pub spot : World → List ℕ → List ℕ → ℕ → Spot
-spot w bytes room n = record { world = w; bytes = bytes; room = room; wrote = n }
-
 -- ---- one event
-
--- the bytes that it prints; no event has more than 255 (`AtMost255` of crate event_step), so that a line has a longest length
-abbrev pub shown : Turn → List ℕ
-shown t = take (min (t .count) MOST) (t .bytes)
 
 abbrev pub lineFor : ℕ → Turn → List ℕ
 lineFor kind t = lineOf kind (t .number) (t .ptt) (shown t)
@@ -76,14 +61,3 @@ blockRun s p = pick (leb MOST (length (p .bytes))) (walk 0 s 0 p) (block 0 p)
 unfoldable pub refusal : List ℕ → Bool → List ℕ
 refusal [] on = []
 refusal (k ∷ s) on = lineOf k 9 on []
-
--- the place behind a line that was to be written at a place
-abbrev pub placeAfter : Line → ℕ → ℕ
-placeAfter (Wrote n) at = n
-placeAfter NumberOver9 at = at
-placeAfter NoRoom at = at
-
--- the answer of `last_line`, and the room after it: where the line has no room nothing is written
-unfoldable pub lastLine : List ℕ → Bool → List ℕ → ℕ × List ℕ
-lastLine [] on d = (0, d)
-lastLine (k ∷ s) on d = (placeAfter (written k 9 on [] d 0 .0) 0, written k 9 on [] d 0 .1)

@@ -6,11 +6,12 @@ use mathlib.Core.List.{List, [], _∷_, _++_}
 use lib.ListN.{take, drop}
 use Rattle.choice.specs.Pick.{pick}
 use Rattle.any_calls.specs.Calls.{World}
-use Rattle.event_line.specs.Events.{bodyLen}
+use Rattle.event_input.specs.Events.{bodyLen}
 use Rattle.event_line.specs.Line.{lineOf}
-use Rattle.event_call.specs.Answer.{keyed}
+use Rattle.event_answer.specs.Answer.{keyed}
 use Rattle.event_step.specs.Step.{Turn, applied}
-use Rattle.event_block.specs.Block.{Spot, spot, lineFor, complete, refusal, blockRun}
+use Rattle.event_turn.specs.Spot.{spot}
+use Rattle.event_block.specs.Block.{lineFor, complete, refusal, blockRun}
 
 -- all that the events of an input print, from a world and a room of bytes on, n bytes passed over first: each its line, and the first that is not whole its kind with 9
 unfoldable pub printed : ℕ → List ℕ → World → List ℕ → List ℕ

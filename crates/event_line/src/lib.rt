@@ -1,17 +1,8 @@
-// The event program's bytes and text: where the next event stands in its input, and the line that an event prints.
+// The line that an event prints.
 ghost use mathlib.Core.Path.{_≡_};
 ghost use Prim.Native.Nat.{_+_, _*_, _<_, _≤_};
 ghost use lib.ListN.{length};
-ghost use Rattle.event_line.specs.Events.{bodyLen, nextAt};
 ghost use Rattle.event_line.specs.Line.{hexDigit, flag, hexOf, lineOf, stored, fits, written};
-
-// What stands at a place of the input. The body of a whole event goes from start up to next.
-pub enum Next {
-    Complete { kind: u8, start: usize, next: usize },
-    Cut(u8),
-    Unknown(u8),
-    End,
-}
 
 pub enum Line {
     // The place behind the line.
@@ -19,10 +10,6 @@ pub enum Line {
     NumberOver9,
     NoRoom,
 }
-
-const FIRST_KIND: u8 = 1;
-
-const LAST_KIND: u8 = 9;
 
 const BLANK: u8 = 0x20;
 
@@ -33,48 +20,6 @@ const ZERO: u8 = 0x30;
 const ONE: u8 = 0x31;
 
 const LETTER: u8 = 0x41;
-
-// How many bytes follow a kind. A kind that is not known has none.
-fn body_len(kind: u8) -> usize
-    ensures { λ r. ⌜ r ≡ bodyLen kind ⌝ }
-{
-    match kind {
-        1 => 1,
-        2 => 1,
-        3 => 8,
-        4 => 4,
-        5 => 30,
-        6 => 26,
-        7 => 25,
-        9 => 1,
-        _ => 0,
-    }
-}
-
-pub fn next_event(src: &[u8], at: usize) -> Next
-    ensures { λ r. ⌜ r ≡ nextAt (now (src .entry)) at ⌝ }
-{
-    if src.len() <= at {
-        return Next::End;
-    }
-    let kind = src[at];
-    if kind < FIRST_KIND {
-        return Next::Unknown(kind);
-    }
-    if LAST_KIND < kind {
-        return Next::Unknown(kind);
-    }
-    let start = at + 1;
-    let len = body_len(kind);
-    if src.len() - start < len {
-        return Next::Cut(kind);
-    }
-    Next::Complete {
-        kind,
-        start,
-        next: start + len,
-    }
-}
 
 // Puts the line of an event into dst from index at on. Where it is not written dst is left as it is.
 pub fn put_line(kind: u8, number: u8, ptt: bool, bytes: &[u8], dst: &mut [u8], at: usize) -> Line

@@ -1,14 +1,11 @@
 // The event program's run: events on standard input, a line for each on standard output. Input and output go in blocks of 64 KiB, so that an input of any length takes the
 // same memory and one read and write serve thousands of events.
 use channel::Channel;
-use event_call::EventBox;
-use event_line::Next;
-use libc::STDIN_FILENO;
+use event_answer::EventBox;
+use event_session::Session;
 use libc::STDOUT_FILENO;
 use tnc_core::Tnc;
-ghost use mathlib.Core.Path.{_≡_};
 ghost use Prim.Native.Nat.{_≤_};
-ghost use lib.ListN.{length};
 
 pub fn run() {
     let mut input = [0u8; 65536];
@@ -46,14 +43,6 @@ pub fn run() {
     }
 }
 
-// The bytes of the input that are held and not used stand from index from up to index held.
-struct Session {
-    station: EventBox,
-    from: usize,
-    held: usize,
-    going: bool,
-}
-
 fn new_box() -> EventBox {
     let tnc = Tnc::new();
     let channel = Channel::new();
@@ -63,7 +52,7 @@ fn new_box() -> EventBox {
     }
 }
 
-// The events that are held whole, as far as the output has room, and their lines; where there is none, more input, or the end.
+// The events that are held whole, as far as the output has room, and their lines; then what follows.
 fn turn(
     session: Session,
     input: &mut [u8; 65536],
@@ -96,62 +85,14 @@ fn turn(
     let station = run.after;
     let used = run.used;
     let wrote = run.wrote;
-    let stopped = Session {
-        station: station,
-        from: 0,
-        held: 0,
-        going: false,
-    };
     let lines: &[u8] = output;
     if !io::write_all(STDOUT_FILENO, &lines[..wrote]) {
-        return stopped;
-    }
-    let at = from + used;
-    if used > 0 {
         return Session {
             station: station,
-            from: at,
-            held: held,
-            going: true,
+            from: 0,
+            held: 0,
+            going: false,
         };
     }
-    let left: &[u8] = input;
-    if let Next::Unknown(_) = event_line::next_event(&left[..held], at) {
-        finish(station, &left[at..held]);
-        return stopped;
-    }
-    store::shift(input, at, held);
-    let kept = held - at;
-    let more = fill(input, kept);
-    if more == kept {
-        let rest: &[u8] = input;
-        finish(station, &rest[..kept]);
-        return stopped;
-    }
-    Session {
-        station: station,
-        from: 0,
-        held: more,
-        going: true,
-    }
-}
-
-// Reads once behind the bytes that are held, and answers how many are held then.
-fn fill(input: &mut [u8], held: usize) -> usize
-    requires { ⌜ held ≤ length (now input) ⌝ }
-    ensures { λ r. ⌜ (held ≤ r) × (r ≤ length (now (input .entry))) ⌝ }
-{
-    let room = &mut input[held..];
-    let got = libc::read(STDIN_FILENO, room);
-    let count = io::count(got, room);
-    held + count
-}
-
-// What is printed at the end of the input, or at a kind that is not known.
-fn finish(station: EventBox, rest: &[u8]) {
-    let mut line = [0u8; 8];
-    let count = event_block::last_line(station, rest, &mut line);
-    if count <= 8 {
-        io::write_all(STDOUT_FILENO, &line[..count]);
-    }
+    event_session::follow(station, input, used, from + used, held)
 }

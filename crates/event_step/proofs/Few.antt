@@ -44,8 +44,8 @@ use Rattle.tnc_transmit.specs.declared.TncTx.{TncTx}
 use Rattle.tnc_read.specs.Calls.{tncRead}
 use Rattle.tnc_transmit.specs.Calls.{tncTx}
 use Rattle.any_calls.specs.Calls.{World, Call, writeKiss, readKiss, handleLsf, handlePacket, handleStream, setDataCarrierDetect, setNow, setTxEndTime, ptt, readTxFrame, gives}
-use Rattle.event_frame.specs.Packet.{packetBody, counterByte}
-use Rattle.event_radio.specs.Radio.{frameBytes, laidOut}
+use Rattle.event_packet.specs.Packet.{packetBody, counterByte}
+use Rattle.event_tx.specs.Tx.{frameBytes, laidOut}
 use Rattle.event_step.specs.Step.{Turn, callOf, bytesAfter, made, notMade, perhaps, applied}
 use Rattle.event_step.specs.Promises.{AtMost255}
 

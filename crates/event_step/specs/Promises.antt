@@ -3,7 +3,7 @@ use Prim.Native.Nat.{ℕ, _≤_}
 use mathlib.Core.List.{List}
 use lib.ListN.{getD}
 use Rattle.any_calls.specs.Calls.{World}
-use Rattle.event_call.specs.Answer.{MOST}
+use Rattle.event_answer.specs.Answer.{MOST}
 use Rattle.event_step.specs.Step.{applied}
 
 -- no event prints more than 255 bytes: 09 asks for no more, and a frame for the modulator has at most 30

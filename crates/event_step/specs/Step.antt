@@ -11,13 +11,13 @@ use Rattle.store.specs.Room.{over}
 use Rattle.streams.specs.Layout.{frameOf}
 use Rattle.tnc_modulator.specs.Modulator.{kindNumber}
 use Rattle.any_calls.specs.Calls.{World, Call, writeKiss, readKiss, handleLsf, handlePacket, handleStream, setDataCarrierDetect, setNow, setTxEndTime, ptt, readTxFrame, reads, gives, after, number}
-use Rattle.event_line.specs.Events.{HOST, CARRIER, CLOCK, ENDTIME, LSF, PACKET, STREAM, READTX, READHOST, bodyLen}
-use Rattle.event_frame.specs.Numbers.{fourBytes, eightBytes}
-use Rattle.event_frame.specs.Packet.{packetOf}
-use Rattle.event_call.specs.declared.EventBox.{EventBox}
-use Rattle.event_call.specs.declared.Applied.{Applied}
-use Rattle.event_call.specs.Answer.{MOST, keyed}
-use Rattle.event_radio.specs.Radio.{laidOut}
+use Rattle.event_input.specs.Events.{HOST, CARRIER, CLOCK, ENDTIME, LSF, PACKET, STREAM, READTX, READHOST, bodyLen}
+use Rattle.event_number.specs.Numbers.{fourBytes, eightBytes}
+use Rattle.event_packet.specs.Packet.{packetOf}
+use Rattle.event_answer.specs.declared.EventBox.{EventBox}
+use Rattle.event_answer.specs.declared.Applied.{Applied}
+use Rattle.event_answer.specs.Answer.{MOST, keyed}
+use Rattle.event_tx.specs.Tx.{laidOut}
 
 -- ---- the call that an event stands for; a kind that is not known stands for none. 09 lends the room as far as it asks
 

@@ -1,8 +1,8 @@
 // One event applied to the TNC.
-use event_call::Applied;
-use event_call::EventBox;
-use event_call::MOST_BYTES;
-use event_call::refuse;
+use event_answer::Applied;
+use event_answer::EventBox;
+use event_answer::MOST_BYTES;
+use event_answer::refuse;
 ghost use mathlib.Core.Path.{_≡_};
 ghost use Rattle.event_step.specs.Step.{worldOf, turnOf, applied};
 
@@ -24,15 +24,15 @@ pub fn apply(
         return refuse(before);
     }
     match kind {
-        1 => event_call::host_byte(before, body, reader, packets, streams),
-        2 => event_call::carrier(before, body),
-        3 => event_call::clock(before, body),
-        4 => event_call::end_time(before, body),
-        5 => event_radio::lsf(before, body, rx, message),
-        6 => event_radio::packet(before, body, rx, message),
-        7 => event_radio::stream(before, body, rx, message),
-        8 => event_radio::read_tx(before, body, packets, streams, bytes),
-        9 => event_call::read_host(before, body, message, bytes),
+        1 => event_host::host_byte(before, body, reader, packets, streams),
+        2 => event_channel::carrier(before, body),
+        3 => event_channel::clock(before, body),
+        4 => event_channel::end_time(before, body),
+        5 => event_air::lsf(before, body, rx, message),
+        6 => event_air::packet(before, body, rx, message),
+        7 => event_air::stream(before, body, rx, message),
+        8 => event_tx::read_tx(before, body, packets, streams, bytes),
+        9 => event_host::read_host(before, body, message, bytes),
         _ => refuse(before),
     }
 }

@@ -5,8 +5,8 @@ use mathlib.Core.List.{List}
 use Rattle.choice.specs.Pick.{pick}
 use Rattle.channel.specs.Access.{newChannel}
 use Rattle.tnc_core.specs.Tnc.{newTnc}
-use Rattle.event_call.specs.declared.EventBox.{EventBox}
-use Rattle.event_call.specs.declared.Applied.{Applied}
+use Rattle.event_answer.specs.declared.EventBox.{EventBox}
+use Rattle.event_answer.specs.declared.Applied.{Applied}
 use Rattle.event_step.specs.Step.{Turn, applied, worldOf}
 use Rattle.saved_state.specs.Numbers.{stateKind, stateValue, validState, stateOf}
 use Rattle.tnc_link.specs.declared.Saved.{Saved}

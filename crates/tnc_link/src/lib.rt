@@ -1,7 +1,7 @@
 // The TNC for hosts in C and Rust: one function that applies an event to it, over a record without enums. `rt staticlib tnc_link` writes the archive.
 use channel::Channel;
-use event_call::Applied;
-use event_call::EventBox;
+use event_answer::Applied;
+use event_answer::EventBox;
 use kiss_buffer::KissBuffer;
 use outgoing::Outgoing;
 use radio::Radio;

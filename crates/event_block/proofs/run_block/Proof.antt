@@ -1,34 +1,122 @@
 -- `event_block::run_block` meets its contract. Assumes nothing.
-use mathlib.Core.Path.{refl}
+use types.Run.{OneOf, miss}
+use denote.Enum.Declared.{tagOf}
+use Prim.Native.Nat.{ℕ, _+_, _-_, _*_, _≤_, _<_}
+use mathlib.Core.Bool.{false}
+use mathlib.Core.Path.{_≡_, refl, sym, ap, _∙_}
+use mathlib.Core.List.{List, [], _∷_}
 use native.Mathlib.Omega.{arith}
 use borrow.Author.Needs.{needs}
 use borrow.Author.Tests.{le-leb, lt-leb}
-use lib.ListN.{length}
+use lib.ListN.{length, drop}
 use Rattle.choice.specs.Pick.{pick-yes, pick-no}
-use Rattle.event_call.specs.Answer.{MOST}
-use Rattle.event_block.specs.Block.{blockRun}
+use Rattle.event_input.proofs.Next.{the-type}
+use Rattle.event_input.specs.declared.Next.{Next}
+use Rattle.event_input.specs.declared.Next.the-variants.{Complete, Cut, Unknown, End}
+use Rattle.event_input.specs.Promises.{Whole}
+use Rattle.event_input.proofs.Kept.{complete-is-whole}
+use Rattle.event_answer.specs.Answer.{MOST}
+use Rattle.event_step.specs.Step.{worldOf}
+use Rattle.event_turn.specs.Spot.{Spot, spot}
+use Rattle.event_block.specs.Block.{walk, blockRun}
+use Rattle.event_block.proofs.Blocks.{steps-most, walk-full, stops, isWhole, on}
 use Rattle.event_block.proofs.run_block.Statement.{statement}
 use Rattle.event_block.proofs.run_block.Tie as tie
 
-returns : tie.Need-returns
+abbrev Inv-loop : tie.InvT-loop
+Inv-loop src dst₀ reader₀ packets₀ streams₀ rx₀ message₀ bytes₀ station₀ at₀ wrote₀ dst reader packets streams rx message bytes station at wrote = (at ≤ length src) × (wrote ≤ length dst) × (length dst ≡ length dst₀) × (length reader ≡ length reader₀) × (length packets ≡ length packets₀) × (length streams ≡ length streams₀) × (length rx ≡ length rx₀) × (length message ≡ length message₀) × (length bytes ≡ length bytes₀) × (walk 0 (drop at src) at (spot (worldOf station reader packets streams rx message) bytes dst wrote) ≡ walk 0 src 0 (spot (worldOf station₀ reader₀ packets₀ streams₀ rx₀ message₀) bytes₀ dst₀ 0))
+
+abbrev μ-loop : tie.MeasureT-loop
+μ-loop src dst₀ reader₀ packets₀ streams₀ rx₀ message₀ bytes₀ station₀ at₀ wrote₀ dst reader packets streams rx message bytes station at wrote = length src - at
+
+other : (r : Next) → OneOf (1 ∷ 2 ∷ 3 ∷ []) (tagOf the-type r) → isWhole r ≡ false
+unfolding isWhole
+other (Complete k a e) h = absurd (miss (1 ∷ 2 ∷ 3 ∷ []) 0 tt h)
+other (Cut k) h = refl
+other (Unknown k) h = refl
+other End h = refl
+
+-- what `Complete` says of the event that stands at `at`
+whole : (c : tie.After-known-told Inv-loop μ-loop) → Whole (c .before .before .before .before .before .before .before .before .before .before .before .before .before .before .before .args .src .now) (c .before .before .before .before .before .loop .at) (c .before .kind .given .0 .0) (c .before .kind .given .0 .1 .0) (c .before .kind .given .0 .1 .1 .0)
+whole c = complete-is-whole (c .before .before .before .before .before .before .before .before .before .before .before .before .before .before .before .args .src .now) (c .before .before .before .before .before .loop .at) _ _ _ (sym (c .before .before .before .next-event .ensures) ∙ c .before .kind .given .1)
+
+returns : tie.Need-returns Inv-loop μ-loop
 unfolding blockRun
 returns c = (pick-no _ (lt-leb MOST (length (c .before .before .before .before .before .before .before .before .before .args .bytes .now)) (c .if1 .taken)) refl, omega arith)
 
-returns-2 : tie.Need-returns-2
+sub-step : tie.Need-sub-step Inv-loop μ-loop
+sub-step c = omega (arith, whole c .ends, whole c .starts, whole c .within)
+
+part-step-start : tie.Need-part-step-start Inv-loop μ-loop
+part-step-start c = omega (arith, whole c .ends, whole c .starts, whole c .within)
+
+part-step-end : tie.Need-part-step-end Inv-loop μ-loop
+part-step-end c = omega (arith, whole c .ends, whole c .starts, whole c .within)
+
+loop-less : tie.Need-loop-less Inv-loop μ-loop
+loop-less c = omega (arith, whole (c .before .before .before .before .before .before .before .before .before .before .before .before .before .before .before .before .before .before .before .before .before .before .before .before) .ends, whole (c .before .before .before .before .before .before .before .before .before .before .before .before .before .before .before .before .before .before .before .before .before .before .before .before) .within)
+
+loop-again : tie.Need-loop-again Inv-loop μ-loop
+loop-again c =
+    let l = c .before .before .before .before .before .before .before .before .before .before .before .before .before .before .before .before .before .before .before .before .before .before .before .before .before .before .before .before .before .loop in let w = whole (c .before .before .before .before .before .before .before .before .before .before .before .before .before .before .before .before .before .before .before .before .before .before .before .before) in let t = c .before .before .before .before .before .before .before .before .before .before .before .before .before .before .before .step in (
+      w .within,
+      omega (arith, steps-most _ _ (spot (worldOf (l .station) (l .reader) (l .packets) (l .streams) (l .rx) (l .message)) (l .bytes) (l .dst) (l .wrote)) (omega (arith, c .before .before .before .before .before .before .before .before .before .before .before .before .before .before .before .before .before .before .before .before .before .before .before .before .before .before .before .before .loop-test .taken, l .inv .1)) (t .result .wrote) (ap (λ (q : Spot). q .wrote) (t .ensures)), c .before .before .before .before .before .before .before .before .before .before .before .before .before .before .before .before .before .before .before .before .before .before .before .before .before .before .before .before .loop-test .taken, l .inv .1, t .kept .1 .1 .1 .0),
+      t .kept .1 .1 .1 .0 ∙ l .inv .2,
+      t .kept .1 .1 .1 .1 .1 .0 ∙ l .inv .3,
+      t .kept .1 .1 .1 .1 .1 .1 .0 ∙ l .inv .4,
+      t .kept .1 .1 .1 .1 .1 .1 .1 .0 ∙ l .inv .5,
+      t .kept .1 .1 .1 .1 .1 .1 .1 .1 .0 ∙ l .inv .6,
+      t .kept .1 .1 .1 .1 .1 .1 .1 .1 .1 .0 ∙ l .inv .7,
+      t .kept .1 .1 .1 .1 .1 .1 .1 .1 .1 .1 .0 ∙ l .inv .8,
+      on (c .before .before .before .before .before .before .before .before .before .before .before .before .before .before .before .before .before .before .before .before .before .before .before .before .before .before .before .before .before .before .before .before .before .before .before .before .before .before .before .args .src .now) (l .at) _ _ _ (spot (worldOf (l .station) (l .reader) (l .packets) (l .streams) (l .rx) (l .message)) (l .bytes) (l .dst) (l .wrote)) _ w (c .before .before .before .before .before .before .before .before .before .before .before .before .before .before .before .before .before .before .before .before .before .before .before .before .before .before .before .before .loop-test .taken) (l .inv .1) (t .ensures) ∙ l .inv .9,
+    )
+
+returns-2 : tie.Need-returns-2 Inv-loop μ-loop
 unfolding blockRun
-returns-2 c = let r = c .before .before .before .before .before .before .before .before .before .before .before .before .before .before .run-events in (pick-yes _ (le-leb MOST (length (c .before .before .before .before .before .before .before .before .before .before .before .before .before .before .before .before .before .before .before .before .before .before .before .before .before .before .before .before .before .before .before .args .bytes .now)) (c .before .before .before .before .before .before .before .before .before .before .before .before .before .before .before .before .before .before .before .before .before .before .if1 .left)) (r .ensures .0), r .ensures .1)
+returns-2 c =
+    let l = c .before .loop in let a = c .before .before .before .before .before .before .before .before .before .before .before .args in (
+      pick-yes _ (le-leb MOST (length (a .bytes .now)) (c .before .before .if1 .left)) (walk-full (a .src .now) (l .at) (spot (worldOf (l .station) (l .reader) (l .packets) (l .streams) (l .rx) (l .message)) (l .bytes) (l .dst) (l .wrote)) (c .loop-test .left) ∙ l .inv .9),
+      omega (arith, l .inv .0, l .inv .1, l .inv .2),
+    )
+
+returns-3 : tie.Need-returns-3 Inv-loop μ-loop
+unfolding blockRun
+returns-3 c =
+    let l = c .before .before .before .loop in let a = c .before .before .before .before .before .before .before .before .before .before .before .before .before .args in (
+      pick-yes _ (le-leb MOST (length (a .bytes .now)) (c .before .before .before .before .if1 .left)) (stops (a .src .now) (l .at) (spot (worldOf (l .station) (l .reader) (l .packets) (l .streams) (l .rx) (l .message)) (l .bytes) (l .dst) (l .wrote)) (ap isWhole (sym (c .before .next-event .ensures)) ∙ other (c .before .next-event .result) (c .match .keys2)) ∙ l .inv .9),
+      omega (arith, l .inv .0, l .inv .1, l .inv .2),
+    )
 
 pub run-block-spec : {M : Type 1} → statement M
 run-block-spec =
     tie.close
     (tie.spec
+    Inv-loop
+    μ-loop
     returns
+    (λ c. search needs)
+    (λ c. search needs)
     (λ c κs. search needs)
     (λ c. search needs)
+    sub-step
+    part-step-start
+    part-step-end
+    (λ c κs. search needs)
+    loop-less
+    loop-again
     (λ c. search needs)
     (λ c. search needs)
     (λ c. search needs)
     (λ c. search needs)
     (λ c. search needs)
     (λ c. search needs)
-    returns-2)
+    (λ c. search needs)
+    returns-2
+    (λ c. search needs)
+    (λ c. search needs)
+    (λ c. search needs)
+    (λ c. search needs)
+    (λ c. search needs)
+    (λ c. search needs)
+    (λ c. search needs)
+    returns-3)

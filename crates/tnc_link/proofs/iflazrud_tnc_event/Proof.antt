@@ -2,7 +2,7 @@
 use mathlib.Core.Path.{refl, ap, _∙_}
 use borrow.Author.Needs.{needs}
 use Rattle.choice.specs.Pick.{pick-yes, pick-no, not-yes, not-no}
-use Rattle.event_call.specs.declared.EventBox.{EventBox}
+use Rattle.event_answer.specs.declared.EventBox.{EventBox}
 use Rattle.event_step.specs.Step.{applied, worldOf}
 use Rattle.tnc_link.specs.Saved.{savedTurn, ofTurn, eventOn}
 use Rattle.tnc_link.proofs.iflazrud_tnc_event.Statement.{statement}

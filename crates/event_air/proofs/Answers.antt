@@ -1,0 +1,13 @@
+-- What the code for each kind of event answers, put together of what its callees said. Assumes nothing.
+use Prim.Native.Nat.{ℕ}
+use mathlib.Core.Path.{_≡_, ap, _∙_}
+use mathlib.Core.List.{List}
+use Rattle.channel.specs.declared.Channel.{Channel}
+use Rattle.radio.specs.Radio.{airNumber}
+use Rattle.tnc_heard.specs.declared.TncHeard.{TncHeard}
+use Rattle.event_answer.specs.declared.Applied.{Applied}
+use Rattle.event_answer.specs.Answer.{answered}
+use Rattle.event_air.specs.Air.{ofHeard}
+
+pub heard-is : (c : Channel) (h : TncHeard) (a b : List ℕ) {n : ℕ} {r : Applied} {q : TncHeard × List ℕ × List ℕ} → r ≡ answered n 0 (h .tnc) c → n ≡ airNumber (h .answer) → (h, a, b) ≡ q → (r, a, b) ≡ ofHeard c q
+heard-is c h a b e f g = (λ j. (e j, a, b)) ∙ (λ j. (answered (f j) 0 (h .tnc) c, a, b)) ∙ ap (ofHeard c) g
