@@ -1,4 +1,4 @@
--- Sixteen bytes of a list, read, put and tested together. From no document: they are steps of faster loops, whose own contracts do not name them. Assumes nothing.
+-- Sixteen bytes of a list, read, put and tested together. From no document. Assumes nothing.
 use Prim.Native.Nat.{ℕ, _+_}
 use mathlib.Core.Bool.{Bool, true, false}
 use mathlib.Core.List.{List, [], _∷_, _++_}

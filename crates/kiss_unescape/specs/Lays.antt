@@ -1,4 +1,4 @@
--- Codes laid into a room from a place on, one store after the other: the words in which `unescape`'s parts say what is left to do. From no document. Assumes nothing.
+-- Codes laid into a room from a place on, one after the other: `lay` of document 01's "KISS bytes", said of any place. Assumes nothing.
 use Prim.Native.Nat.{ℕ, suc}
 use mathlib.Core.List.{List, [], _∷_}
 use lib.ListN.{getD, set}
