@@ -1,6 +1,6 @@
 // Both sides from one driver on the same input. `bench times` prints medians of interleaved rounds, in nanoseconds: ours, the Rust's, and of copying the input by memcpy; `bench growth` the
 // same for inputs of many lengths; `bench SIDE WHAT N` runs one side N times, for whoever counts instructions; `bench stream N` and `bench events` are the event stream and the Rust's
-// event program.
+// event program, `bench child FILE PROGRAM ..` says what a program took.
 mod events;
 #[path = "../../src/leaned_on.rs"]
 mod leaned_on;
@@ -210,6 +210,19 @@ fn clock() -> f64 {
     time[0] as f64 + time[1] as f64 * 1e-9
 }
 
+// What a program took in all, in microseconds, with a file as its input: its own time and what the system did for it.
+fn child(words: &[String]) -> i64 {
+    extern "C" {
+        fn getrusage(who: i32, usage: *mut [i64; 18]) -> i32;
+    }
+    let input = std::fs::File::open(&words[0]).unwrap();
+    let done = std::process::Command::new(&words[1]).args(&words[2..]).stdin(input).stdout(std::process::Stdio::null()).status().unwrap();
+    assert!(done.success());
+    let mut usage = [0i64; 18];
+    assert_eq!(unsafe { getrusage(-1, &mut usage) }, 0);
+    (usage[0] + usage[2]) * 1_000_000 + usage[1] + usage[3]
+}
+
 fn seconds(n: usize, mut f: impl FnMut() -> usize) -> f64 {
     let from = clock();
     for _ in 0..n {
@@ -256,6 +269,7 @@ fn main() {
         Some("names") => println!("{}", ALL.join(" ")),
         Some("events") => events::events(),
         Some("stream") => events::stream(words[1].parse().unwrap()),
+        Some("child") => println!("{}", child(&words[1..])),
         Some("times") => ALL.iter().for_each(|what| line(what, what, prepared(what))),
         Some("growth") => {
             for what in ["crc", "escape-random", "unescape-random"] {
