@@ -1,4 +1,4 @@
-// Writes the modules of m17core as they stand in the folder M17_RUST, each file included unchanged, and links the archive of crate iflazrud.
+// Writes the modules of m17core as they stand in the folder M17_RUST, each file included unchanged, and links the archive of crate iflazrud that stands in the folder ARCHIVE.
 use std::{env, fs, path::Path};
 
 fn main() {
@@ -24,7 +24,11 @@ fn main() {
     ]
     .join("\n");
     fs::write(Path::new(&env::var("OUT_DIR").unwrap()).join("m17core.rs"), text).unwrap();
-    println!("cargo:rustc-link-search=native={here}/../../target/staticlib");
+    let archive = env::var("ARCHIVE").expect("ARCHIVE, the folder of libiflazrud.a");
+    println!("cargo:rustc-link-search=native={archive}");
     println!("cargo:rustc-link-lib=static=iflazrud");
-    println!("cargo:rerun-if-changed={here}/../../target/staticlib/libiflazrud.a");
+    println!("cargo:rerun-if-changed={archive}/libiflazrud.a");
+    println!("cargo:rerun-if-env-changed=ARCHIVE");
+    println!("cargo:rerun-if-env-changed=PAD");
+    println!("cargo:rustc-env=PAD={}", env::var("PAD").unwrap_or("0".to_string()));
 }
