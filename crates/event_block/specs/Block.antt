@@ -6,7 +6,6 @@ use lib.Dec.{leb}
 use lib.ListN.{length, take}
 use lib.Seq.{sets}
 use Rattle.choice.specs.Pick.{pick, and}
-use Rattle.any_calls.specs.Calls.{World}
 use Rattle.event_input.specs.Events.{known, bodyLen}
 use Rattle.event_line.specs.Line.{lineOf}
 use Rattle.event_answer.specs.Answer.{MOST}

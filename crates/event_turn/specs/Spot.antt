@@ -18,7 +18,7 @@ pub record Spot : Type 0 where
 abbrev pub spot : World → List ℕ → List ℕ → ℕ → Spot
 spot w bytes room n = record { world = w; bytes = bytes; room = room; wrote = n }
 
--- the bytes that it prints; no event has more than 255 (`AtMost255` of crate event_step), so that a line has a longest length
+-- the bytes that an event prints; none has more than 255 (`AtMost255` of crate event_step), so that a line has a longest length
 abbrev pub shown : Turn → List ℕ
 shown t = take (min (t .count) MOST) (t .bytes)
 
