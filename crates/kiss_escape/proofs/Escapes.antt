@@ -1,9 +1,11 @@
 -- The laws of `esc`: one byte, a list, and one step of a loop that reads at an index. Assumes nothing.
-use mathlib.Core.Path.{_≡_, refl, ap, _∙_}
+use mathlib.Core.Path.{_≡_, refl, sym, ap, _∙_}
+use mathlib.Core.Bool.{Bool, true, false, _||_, false≢true}
 use mathlib.Core.List.{List, [], _∷_, _++_, append-assoc}
 use Prim.Native.Nat.{ℕ, _+_, _*_, _≤_, _<_}
 use native.Mathlib.Numerals.{add-one}
 use native.Mathlib.Omega.{arith}
+use lib.Dec.{eqb}
 use lib.ListN.{length, drop, getD, length-append, drop-of-length-le}
 use lib.Seq.{drop-cons}
 use borrow.Author.Tests.{eq-eqb, ne-eqb, le-leb, lt-leb}
@@ -27,6 +29,25 @@ escByte-fesc b h = rw h
 pub escByte-other : (b : ℕ) → (b ≡ FEND → ⊥) → (b ≡ FESC → ⊥) → escByte b ≡ b ∷ []
 unfolding escByte pick
 escByte-other b f g = rw (ne-eqb b FEND f, ne-eqb b FESC g)
+
+-- by one test for both
+escByte-special : (b : ℕ) {r : ℕ} → (eqb b FEND || eqb b FESC) ≡ true → r ≡ pick (eqb b FEND) TFEND TFESC → escByte b ≡ FESC ∷ r ∷ []
+unfolding escByte pick
+escByte-special b h e = rw e (by (eqb b FEND) (eqb b FESC) h)
+  where
+    by : (p q : Bool) → (p || q) ≡ true → pick p (FESC ∷ TFEND ∷ []) (pick q (FESC ∷ TFESC ∷ []) (b ∷ [])) ≡ FESC ∷ pick p TFEND TFESC ∷ []
+    by true q k = refl
+    by false true k = refl
+    by false false k = absurd (false≢true k)
+
+escByte-plain : (b : ℕ) → (eqb b FEND || eqb b FESC) ≡ false → escByte b ≡ b ∷ []
+unfolding escByte pick
+escByte-plain b h = by (eqb b FEND) (eqb b FESC) h
+  where
+    by : (p q : Bool) → (p || q) ≡ false → pick p (FESC ∷ TFEND ∷ []) (pick q (FESC ∷ TFESC ∷ []) (b ∷ [])) ≡ b ∷ []
+    by true q k = absurd (false≢true (sym k))
+    by false true k = absurd (false≢true (sym k))
+    by false false k = refl
 
 escByte-length : (b : ℕ) → Kind b → (1 ≤ length (escByte b)) × (length (escByte b) ≤ 2)
 escByte-length b (fend e) = rw (escByte-fend b e) (omega arith)
@@ -60,6 +81,13 @@ module _ (s : List ℕ) (i : ℕ) (h : i < length s) where
 
   pub esc-at-other : (getD s i 0 ≡ FEND → ⊥) → (getD s i 0 ≡ FESC → ⊥) → esc (drop i s) ≡ getD s i 0 ∷ esc (drop (i + 1) s)
   esc-at-other f g = rw (esc-at, escByte-other _ f g)
+
+  pub esc-at-special : {r : ℕ} → (eqb (getD s i 0) FEND || eqb (getD s i 0) FESC) ≡ true → r ≡ pick (eqb (getD s i 0) FEND) TFEND TFESC
+      → esc (drop i s) ≡ FESC ∷ r ∷ esc (drop (i + 1) s)
+  esc-at-special e f = rw (esc-at, escByte-special _ e f)
+
+  pub esc-at-plain : (eqb (getD s i 0) FEND || eqb (getD s i 0) FESC) ≡ false → esc (drop i s) ≡ getD s i 0 ∷ esc (drop (i + 1) s)
+  esc-at-plain e = rw (esc-at, escByte-plain _ e)
 
 pub esc-done : (s : List ℕ) (i : ℕ) → length s ≤ i → esc (drop i s) ≡ []
 unfolding esc

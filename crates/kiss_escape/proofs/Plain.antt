@@ -9,7 +9,7 @@ use lib.Seq.{sets}
 use Rattle.blocks.specs.Block.{loaded, stored, without}
 use Rattle.blocks.proofs.Blocks.{loaded-length, loaded-split, stored-in, without-first, without-rest}
 use Rattle.store.proofs.Runs.{sets-append}
-use Rattle.kiss_escape.specs.Escape.{FEND, FESC, escByte, esc}
+use Rattle.kiss_escape.specs.Escape.{FEND, FESC, esc}
 use Rattle.kiss_escape.proofs.Escapes.{escByte-other}
 
 esc-plain : (t s : List ℕ) → without FEND t ≡ true → without FESC t ≡ true → esc (t ++ s) ≡ t ++ esc s

@@ -4,10 +4,12 @@ use blocks::none_of;
 use blocks::store16;
 ghost use mathlib.Core.Path.{_≡_};
 ghost use Prim.Native.Nat.{_+_, _≤_};
+ghost use lib.Dec.{eqb};
 ghost use lib.ListN.{length, drop};
 ghost use lib.Seq.{sets};
+ghost use Rattle.choice.specs.Pick.{pick};
 ghost use Rattle.store.specs.Room.{over};
-ghost use Rattle.kiss_escape.specs.Escape.{esc, escaped};
+ghost use Rattle.kiss_escape.specs.Escape.{FEND, TFEND, TFESC, esc, escaped};
 
 pub const FEND: u8 = 0xC0;
 
@@ -79,13 +81,9 @@ fn put_escaped(src: &[u8], dst: &mut [u8]) -> usize
         }
         let b = src[i];
         i += 1;
-        if b == FEND {
+        if (b == FEND) | (b == FESC) {
             dst[j] = FESC;
-            dst[j + 1] = TFEND;
-            j += 2;
-        } else if b == FESC {
-            dst[j] = FESC;
-            dst[j + 1] = TFESC;
+            dst[j + 1] = code(b);
             j += 2;
         } else {
             dst[j] = b;
@@ -95,14 +93,24 @@ fn put_escaped(src: &[u8], dst: &mut [u8]) -> usize
     j
 }
 
+// The byte behind FESC that stands for FEND or FESC: a choice between two numbers, of which the compiler makes no branch.
+fn code(b: u8) -> u8
+    ensures { λ r. ⌜ r ≡ pick (eqb b FEND) TFEND TFESC ⌝ }
+{
+    if b == FEND { TFEND } else { TFESC }
+}
+
 // Copies the blocks of src from index at on, as far as none of their bytes is to be escaped, into dst from index to on, and returns how many bytes that are.
-// What is then left to escape and to store is what was left before.
+// What is then left to escape and to store is what was left before. The test of dst never holds; by it the compiler drops those inside `store16`.
 fn put_plain(src: &[u8], at: usize, dst: &mut [u8], to: usize) -> usize
     requires { ⌜ (at ≤ length (now src)) × (to + length (esc (drop at (now src))) ≤ length (now dst)) ⌝ }
     ensures { λ r. ⌜ (at + r ≤ length (now (src .entry))) × (r + length (esc (drop (at + r) (now (src .entry)))) ≡ length (esc (drop at (now (src .entry))))) × (sets (now (dst .exit)) (to + r) (esc (drop (at + r) (now (src .entry)))) ≡ sets (now (dst .entry)) to (esc (drop at (now (src .entry))))) ⌝ }
 {
     let mut n = 0;
     while 16 <= src.len() - (at + n) {
+        if dst.len() - (to + n) < 16 {
+            return n;
+        }
         let t = load16(src, at + n);
         if none_of(t, FEND) & none_of(t, FESC) {
             store16(t, dst, to + n);

@@ -1,18 +1,20 @@
 -- The laws of `codes` and `lays` that the loops of `unescape` go by. Assumes nothing.
 use mathlib.Core.Path.{_≡_, refl, sym, ap, ap₂, _∙_}
-use mathlib.Core.Bool.{Bool, true}
+use mathlib.Core.Bool.{Bool, true, false, _||_}
 use mathlib.Core.List.{List, [], _∷_, _++_, map}
 use Prim.Native.Nat.{ℕ, suc, _+_, _≤_, _<_, min}
 use native.Mathlib.Nat.{add-zero, add-suc, suc-add, le-step}
 use native.Mathlib.Numerals.{add-one}
 use native.Mathlib.Omega.{arith}
+use lib.Dec.{eqb}
 use lib.ListN.{length, drop, getD, set, length-append, length-map, drop-of-length-le}
 use lib.Seq.{sets, drop-cons, set-out, set-getD}
+use Rattle.choice.specs.Pick.{pick}
 use Rattle.blocks.specs.Block.{loaded, stored, without}
 use Rattle.blocks.proofs.Blocks.{loaded-length, loaded-split, stored-in, without-first, without-rest}
 use Rattle.kiss_escape.specs.Escape.{FEND, FESC, TFEND, TFESC}
 use Rattle.kiss_escape.specs.Unescape.{Code, byte, as-found, afterFesc, codes, laid, lay, unescaped}
-use Rattle.kiss_escape.proofs.Codes.{afterFesc-fend, afterFesc-fesc, afterFesc-other, codes-byte, codes-pair, codes-last}
+use Rattle.kiss_escape.proofs.Codes.{afterFesc-known, afterFesc-other, codes-byte, codes-pair, codes-last}
 use Rattle.kiss_unescape.specs.Lays.{lays}
 
 -- ---- from index i of a content on
@@ -34,14 +36,13 @@ module _ (s : List ℕ) (i : ℕ) where
       let h″ : i < length s = omega arith in
       rw (add-one (i + 1), add-one i, drop-cons s i 0 h″, drop-cons s (suc i) 0 h′) (codes-pair _ _ _ e)
 
-  pub codes-at-fend : i + 1 < length s → getD s i 0 ≡ FESC → getD s (i + 1) 0 ≡ TFEND → codes (drop i s) ≡ byte FEND ∷ codes (drop (i + 1 + 1) s)
-  codes-at-fend h e y = rw (codes-at-pair h e, afterFesc-fend _ y)
+  pub codes-at-known : {r : ℕ} → i + 1 < length s → getD s i 0 ≡ FESC → (eqb (getD s (i + 1) 0) TFEND || eqb (getD s (i + 1) 0) TFESC) ≡ true
+      → r ≡ pick (eqb (getD s (i + 1) 0) TFEND) FEND FESC → codes (drop i s) ≡ byte r ∷ codes (drop (i + 1 + 1) s)
+  codes-at-known h e y f = rw (codes-at-pair h e, afterFesc-known _ y f)
 
-  pub codes-at-fesc : i + 1 < length s → getD s i 0 ≡ FESC → getD s (i + 1) 0 ≡ TFESC → codes (drop i s) ≡ byte FESC ∷ codes (drop (i + 1 + 1) s)
-  codes-at-fesc h e y = rw (codes-at-pair h e, afterFesc-fesc _ y)
-
-  pub codes-at-other : i + 1 < length s → getD s i 0 ≡ FESC → (getD s (i + 1) 0 ≡ TFEND → ⊥) → (getD s (i + 1) 0 ≡ TFESC → ⊥) → codes (drop i s) ≡ as-found ∷ codes (drop (i + 1 + 1) s)
-  codes-at-other h e f g = rw (codes-at-pair h e, afterFesc-other _ f g)
+  pub codes-at-other : i + 1 < length s → getD s i 0 ≡ FESC → (eqb (getD s (i + 1) 0) TFEND || eqb (getD s (i + 1) 0) TFESC) ≡ false
+      → codes (drop i s) ≡ as-found ∷ codes (drop (i + 1 + 1) s)
+  codes-at-other h e y = rw (codes-at-pair h e, afterFesc-other _ y)
 
 -- ---- codes laid one by one, by stores from index j on
 

@@ -8,7 +8,10 @@ use kiss_escape::TFEND;
 use kiss_escape::TFESC;
 ghost use mathlib.Core.Path.{_≡_};
 ghost use Prim.Native.Nat.{_+_, _≤_};
+ghost use lib.Dec.{eqb};
 ghost use lib.ListN.{length, drop};
+ghost use Rattle.choice.specs.Pick.{pick};
+ghost use Rattle.kiss_escape.specs.Escape.{FEND, FESC, TFEND};
 ghost use Rattle.kiss_escape.specs.Unescape.{codes, unescaped};
 ghost use Rattle.kiss_unescape.specs.Lays.{lays};
 
@@ -41,16 +44,21 @@ pub fn unescape(src: &[u8], dst: &mut [u8]) -> usize
             }
             let e = src[i];
             i += 1;
-            if e == TFEND {
-                dst[at] = FEND;
-            } else if e == TFESC {
-                dst[at] = FESC;
+            if (e == TFEND) | (e == TFESC) {
+                dst[at] = meant(e);
             }
         } else {
             dst[at] = b;
         }
     }
     j
+}
+
+// The byte that FESC before TFEND or TFESC stands for: a choice between two numbers, of which the compiler makes no branch.
+fn meant(e: u8) -> u8
+    ensures { λ r. ⌜ r ≡ pick (eqb e TFEND) FEND FESC ⌝ }
+{
+    if e == TFEND { FEND } else { FESC }
 }
 
 // Copies the blocks of src from index at on, as far as they have no FESC, into dst from index to on, as far as both go, and returns how many bytes that are.

@@ -1,14 +1,14 @@
 -- `kiss_escape::put_escaped` meets its contract. The loop's invariant says what is left to do: storing what src from i on is escaped to, from j on, gives what storing all of it from 0 on gave at the start. Assumes nothing.
 use Prim.Native.Nat.{ℕ, _+_, _-_, _≤_}
-use mathlib.Core.Path.{_≡_, sym, ap, _∙_}
+use mathlib.Core.Path.{_≡_, refl, sym, ap, _∙_}
 use mathlib.Core.List.{List, _∷_}
 use native.Mathlib.Omega.{arith}
 use borrow.Author.Needs.{needs}
 use lib.Seq.{sets}
 use lib.ListN.{length, drop, getD, length-set}
-use Rattle.kiss_escape.specs.Escape.{FEND, FESC, TFEND, TFESC, esc}
+use Rattle.kiss_escape.specs.Escape.{FESC, esc}
 use Rattle.store.proofs.Runs.{put-one, put-two, put-front}
-use Rattle.kiss_escape.proofs.Escapes.{esc-at-fend, esc-at-fesc, esc-at-other, esc-done}
+use Rattle.kiss_escape.proofs.Escapes.{esc-at-special, esc-at-plain, esc-done}
 use Rattle.kiss_escape.proofs.put_escaped.Statement.{statement}
 use Rattle.kiss_escape.proofs.put_escaped.Tie as tie
 
@@ -28,19 +28,15 @@ abbrev source : tie.At-loop Inv-loop μ-loop → List ℕ
 source l = l .before .before .before .args .src .now
 
 -- what is left to store at the head of a turn, by the byte that is read
-left-fend : (c : tie.Then2 Inv-loop μ-loop) → let l = c .before .before .before .before in
-    esc (drop (l .loop .i) (source l)) ≡ FESC ∷ TFEND ∷ esc (drop (l .loop .i + 1) (source l))
-left-fend c = let t = c .before .before .before in let l = t .before in esc-at-fend (source l) (l .loop .i) (t .loop-test .taken) (c .if2 .taken)
+left-special : (c : tie.After-code Inv-loop μ-loop) → let l = c .before .before .before .before .before in
+    esc (drop (l .loop .i) (source l)) ≡ FESC ∷ c .code .result ∷ esc (drop (l .loop .i + 1) (source l))
+left-special c =
+    let g = c .before in let t = g .before .before .before in let l = t .before in
+    esc-at-special (source l) (l .loop .i) (t .loop-test .taken) (g .if2 .taken) (c .code .ensures)
 
-left-fesc : (c : tie.Then3 Inv-loop μ-loop) → let l = c .before .before .before .before .before in
-    esc (drop (l .loop .i) (source l)) ≡ FESC ∷ TFESC ∷ esc (drop (l .loop .i + 1) (source l))
-left-fesc c = let t = c .before .before .before .before in let l = t .before in esc-at-fesc (source l) (l .loop .i) (t .loop-test .taken) (c .if3 .taken)
-
-left-other : (c : tie.Else3 Inv-loop μ-loop) → let l = c .before .before .before .before .before in
+left-plain : (c : tie.Else2 Inv-loop μ-loop) → let l = c .before .before .before .before in
     esc (drop (l .loop .i) (source l)) ≡ getD (source l) (l .loop .i) 0 ∷ esc (drop (l .loop .i + 1) (source l))
-left-other c =
-    let t = c .before .before .before .before in let l = t .before in
-    esc-at-other (source l) (l .loop .i) (t .loop-test .taken) (c .before .if2 .left) (c .if3 .left)
+left-plain c = let t = c .before .before .before in let l = t .before in esc-at-plain (source l) (l .loop .i) (t .loop-test .taken) (c .if2 .left)
 
 add-i : tie.Need-add-i Inv-loop μ-loop
 add-i c = omega (arith, c .before .before .put-plain .ensures .0)
@@ -62,31 +58,23 @@ loop-again c =
     (omega (arith, e .0), search needs, omega (arith, e .1), e .2 ∙ l .loop .inv .3, omega (arith, e .0))
 
 slice-write-dst : tie.Need-slice-write-dst Inv-loop μ-loop
-slice-write-dst c = omega (arith, ap length (left-fend c))
+slice-write-dst c =
+    let t = c .before .before .before in let l = t .before in
+    omega (arith, ap length (esc-at-special (source l) (l .loop .i) (t .loop-test .taken) (c .if2 .taken) refl))
 
 slice-write-dst-2 : tie.Need-slice-write-dst-2 Inv-loop μ-loop
-slice-write-dst-2 c = simp length-set (omega (arith, ap length (left-fend c)))
+slice-write-dst-2 c = simp length-set (omega (arith, ap length (left-special c)))
 
 loop-again-2 : tie.Need-loop-again-2 Inv-loop μ-loop
-loop-again-2 c = let l = c .before .before .before .before in
-    (search needs, search needs, omega (arith, ap length (left-fend c)), put-two (l .loop .dst) (l .loop .j) (left-fend c) (l .loop .inv .3), search needs)
+loop-again-2 c = let l = c .before .before .before .before .before in
+    (search needs, search needs, omega (arith, ap length (left-special c)), put-two (l .loop .dst) (l .loop .j) (left-special c) (l .loop .inv .3), search needs)
 
 slice-write-dst-3 : tie.Need-slice-write-dst-3 Inv-loop μ-loop
-slice-write-dst-3 c = omega (arith, ap length (left-fesc c))
-
-slice-write-dst-4 : tie.Need-slice-write-dst-4 Inv-loop μ-loop
-slice-write-dst-4 c = simp length-set (omega (arith, ap length (left-fesc c)))
+slice-write-dst-3 c = omega (arith, ap length (left-plain c))
 
 loop-again-3 : tie.Need-loop-again-3 Inv-loop μ-loop
-loop-again-3 c = let l = c .before .before .before .before .before in
-    (search needs, search needs, omega (arith, ap length (left-fesc c)), put-two (l .loop .dst) (l .loop .j) (left-fesc c) (l .loop .inv .3), search needs)
-
-slice-write-dst-5 : tie.Need-slice-write-dst-5 Inv-loop μ-loop
-slice-write-dst-5 c = omega (arith, ap length (left-other c))
-
-loop-again-4 : tie.Need-loop-again-4 Inv-loop μ-loop
-loop-again-4 c = let l = c .before .before .before .before .before in
-    (search needs, search needs, omega (arith, ap length (left-other c)), put-one (l .loop .dst) (l .loop .j) (left-other c) (l .loop .inv .3), search needs)
+loop-again-3 c = let l = c .before .before .before .before in
+    (search needs, search needs, omega (arith, ap length (left-plain c)), put-one (l .loop .dst) (l .loop .j) (left-plain c) (l .loop .inv .3), search needs)
 
 returns : tie.Need-returns Inv-loop μ-loop
 returns c =
@@ -109,6 +97,7 @@ put-escaped-spec =
     (λ c. search needs)
     (λ c. search needs)
     slice-write-dst
+    (λ c κs. search needs)
     (λ c. search needs)
     slice-write-dst-2
     (λ c. search needs)
@@ -116,13 +105,7 @@ put-escaped-spec =
     loop-again-2
     slice-write-dst-3
     (λ c. search needs)
-    slice-write-dst-4
-    (λ c. search needs)
     (λ c. search needs)
     loop-again-3
-    slice-write-dst-5
-    (λ c. search needs)
-    (λ c. search needs)
-    loop-again-4
     (λ c. search needs)
     returns)

@@ -1,6 +1,6 @@
 -- `kiss_escape::put_plain` meets its contract. The invariant says what is left to do behind n bytes, and a block leaves as much. Assumes nothing.
 use Prim.Native.Nat.{ℕ, _+_, _-_, _≤_}
-use mathlib.Core.Path.{_≡_, refl, ap}
+use mathlib.Core.Path.{_≡_, refl}
 use mathlib.Core.List.{List}
 use native.Mathlib.Nat.{add-zero}
 use native.Mathlib.Omega.{arith}
@@ -33,23 +33,26 @@ loop-holds c =
 loop-again : tie.Need-loop-again Inv-loop μ-loop
 loop-again c =
     let w = c .before .before in let g = w .before .before in let q = g .before in let p = q .before in let r = p .before in
-    let l = r .before .before in let start = l .before .before .before in let a = start .args in let n = l .loop .n in
+    let l = r .before .before .before in let a = l .before .before .before .args in let n = l .loop .n in
     let fit : a .at + n + 16 ≤ length (a .src .now) = omega arith in
-    let more = plain-length (a .src .now) (r .load16 .result) (a .at) n (r .load16 .ensures) fit _ _ (p .none-of .ensures) (q .none-of2 .ensures) (g .if1 .taken) in (
+    let more = plain-length (a .src .now) (r .load16 .result) (a .at) n (r .load16 .ensures) fit _ _ (p .none-of .ensures) (q .none-of2 .ensures) (g .if2 .taken) in (
       search needs,
       (
         omega arith,
         omega (arith, more),
-        plain-put (a .src .now) (r .load16 .result) (a .at) n (r .load16 .ensures) fit _ _ (p .none-of .ensures) (q .none-of2 .ensures) (g .if1 .taken)
+        plain-put (a .src .now) (r .load16 .result) (a .at) n (r .load16 .ensures) fit _ _ (p .none-of .ensures) (q .none-of2 .ensures) (g .if2 .taken)
             (l .loop .dst) _ (a .to) (w .store16 .ensures) (omega arith) (l .loop .inv .1 .2),
       ),
     )
 
 returns : tie.Need-returns Inv-loop μ-loop
-returns c = c .before .before .before .before .before .loop .inv .1
+returns c = c .before .before .loop .inv .1
 
 returns-2 : tie.Need-returns-2 Inv-loop μ-loop
-returns-2 c = c .before .loop .inv .1
+returns-2 c = c .before .before .before .before .before .before .loop .inv .1
+
+returns-3 : tie.Need-returns-3 Inv-loop μ-loop
+returns-3 c = c .before .loop .inv .1
 
 pub put-plain-spec : {M : Type 1} → statement M
 put-plain-spec =
@@ -61,6 +64,10 @@ put-plain-spec =
     (λ c. search needs)
     (λ c. search needs)
     (λ c. search needs)
+    (λ c. search needs)
+    (λ c. search needs)
+    returns
+    (λ c. search needs)
     (λ c κs. search needs)
     (λ c κs. search needs)
     (λ c κs. search needs)
@@ -70,6 +77,6 @@ put-plain-spec =
     (λ c. search needs)
     loop-again
     (λ c. search needs)
-    returns
+    returns-2
     (λ c. search needs)
-    returns-2)
+    returns-3)

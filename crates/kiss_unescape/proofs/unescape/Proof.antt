@@ -5,10 +5,9 @@ use mathlib.Core.List.{List, [], _∷_}
 use native.Mathlib.Omega.{arith}
 use borrow.Author.Needs.{needs}
 use lib.ListN.{length, drop, getD, length-set}
-use Rattle.kiss_escape.specs.Escape.{FEND, FESC}
 use Rattle.kiss_escape.specs.Unescape.{Code, byte, as-found, codes}
 use Rattle.kiss_unescape.specs.Lays.{lays}
-use Rattle.kiss_unescape.proofs.Steps.{codes-done, codes-at-byte, codes-at-last, codes-at-fend, codes-at-fesc, codes-at-other, lays-out, lay-byte, lay-found, all-laid}
+use Rattle.kiss_unescape.proofs.Steps.{codes-done, codes-at-byte, codes-at-last, codes-at-known, codes-at-other, lays-out, lay-byte, lay-found, all-laid}
 use Rattle.kiss_unescape.proofs.unescape.Statement.{statement}
 use Rattle.kiss_unescape.proofs.unescape.Tie as tie
 
@@ -32,23 +31,17 @@ source l = l .before .before .before .args .src .now
 abbrev left : tie.At-loop Inv-loop μ-loop → List Code
 left l = codes (drop (l .loop .i) (source l))
 
-at-fend : (c : tie.Then5 Inv-loop μ-loop) → let l = c .before .before .before .before .before .before .before .before in
-    left l ≡ byte FEND ∷ codes (drop (l .loop .i + 1 + 1) (source l))
-at-fend c =
-    let p = c .before .before in let l = p .before .before .before .before .before .before in
-    codes-at-fend (source l) (l .loop .i) (p .if4 .left) (p .before .if3 .taken) (c .if5 .taken)
+at-known : (c : tie.After-meant Inv-loop μ-loop) → let l = c .before .before .before .before .before .before .before .before .before in
+    left l ≡ byte (c .meant .result) ∷ codes (drop (l .loop .i + 1 + 1) (source l))
+at-known c =
+    let g = c .before in let p = g .before .before in let l = p .before .before .before .before .before .before in
+    codes-at-known (source l) (l .loop .i) (p .if4 .left) (p .before .if3 .taken) (g .if5 .taken) (c .meant .ensures)
 
-at-fesc : (c : tie.Then6 Inv-loop μ-loop) → let l = c .before .before .before .before .before .before .before .before .before in
-    left l ≡ byte FESC ∷ codes (drop (l .loop .i + 1 + 1) (source l))
-at-fesc c =
-    let p = c .before .before .before in let l = p .before .before .before .before .before .before in
-    codes-at-fesc (source l) (l .loop .i) (p .if4 .left) (p .before .if3 .taken) (c .if6 .taken)
-
-at-other : (c : tie.Else6 Inv-loop μ-loop) → let l = c .before .before .before .before .before .before .before .before .before in
+at-other : (c : tie.Else5 Inv-loop μ-loop) → let l = c .before .before .before .before .before .before .before .before in
     left l ≡ as-found ∷ codes (drop (l .loop .i + 1 + 1) (source l))
 at-other c =
-    let p = c .before .before .before in let l = p .before .before .before .before .before .before in
-    codes-at-other (source l) (l .loop .i) (p .if4 .left) (p .before .if3 .taken) (c .before .if5 .left) (c .if6 .left)
+    let p = c .before .before in let l = p .before .before .before .before .before .before in
+    codes-at-other (source l) (l .loop .i) (p .if4 .left) (p .before .if3 .taken) (c .if5 .left)
 
 at-byte : (c : tie.Else3 Inv-loop μ-loop) → let l = c .before .before .before .before .before in
     left l ≡ byte (getD (source l) (l .loop .i) 0) ∷ codes (drop (l .loop .i + 1) (source l))
@@ -90,19 +83,15 @@ returns-2 c =
     all-laid (a .src .now) (a .dst .now) (omega (arith, ap length (at-last c))) (ap (lays (l .loop .dst) (l .loop .j)) (sym (at-last c)) ∙ l .loop .inv .4)
 
 loop-again-2 : tie.Need-loop-again-2 Inv-loop μ-loop
-loop-again-2 c = let l = c .before .before .before .before .before .before .before .before in
-    (search needs, simp length-set (omega arith), search needs, omega (arith, ap length (at-fend c)), lay-byte (l .loop .dst) (l .loop .j) (at-fend c) (l .loop .inv .4), search needs)
+loop-again-2 c = let l = c .before .before .before .before .before .before .before .before .before in
+    (search needs, simp length-set (omega arith), search needs, omega (arith, ap length (at-known c)), lay-byte (l .loop .dst) (l .loop .j) (at-known c) (l .loop .inv .4), search needs)
 
 loop-again-3 : tie.Need-loop-again-3 Inv-loop μ-loop
-loop-again-3 c = let l = c .before .before .before .before .before .before .before .before .before in
-    (search needs, simp length-set (omega arith), search needs, omega (arith, ap length (at-fesc c)), lay-byte (l .loop .dst) (l .loop .j) (at-fesc c) (l .loop .inv .4), search needs)
-
-loop-again-4 : tie.Need-loop-again-4 Inv-loop μ-loop
-loop-again-4 c = let l = c .before .before .before .before .before .before .before .before .before in
+loop-again-3 c = let l = c .before .before .before .before .before .before .before .before in
     (search needs, omega arith, search needs, omega (arith, ap length (at-other c)), lay-found (l .loop .dst) (l .loop .j) (at-other c) (l .loop .inv .4), search needs)
 
-loop-again-5 : tie.Need-loop-again-5 Inv-loop μ-loop
-loop-again-5 c = let l = c .before .before .before .before .before in
+loop-again-4 : tie.Need-loop-again-4 Inv-loop μ-loop
+loop-again-4 c = let l = c .before .before .before .before .before in
     (search needs, simp length-set (omega arith), search needs, omega (arith, ap length (at-byte c)), lay-byte (l .loop .dst) (l .loop .j) (at-byte c) (l .loop .inv .4), search needs)
 
 returns-3 : tie.Need-returns-3 Inv-loop μ-loop
@@ -132,16 +121,14 @@ unescape-spec =
     returns-2
     (λ c. search needs)
     (λ c. search needs)
+    (λ c κs. search needs)
     (λ c. search needs)
     (λ c. search needs)
     loop-again-2
     (λ c. search needs)
-    (λ c. search needs)
     loop-again-3
     (λ c. search needs)
+    (λ c. search needs)
     loop-again-4
-    (λ c. search needs)
-    (λ c. search needs)
-    loop-again-5
     (λ c. search needs)
     returns-3)
