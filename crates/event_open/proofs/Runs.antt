@@ -1,0 +1,77 @@
+-- One event of a run, and where a run ends. Assumes nothing.
+use Prim.Native.Nat.{ℕ, suc, _+_, _-_, _≤_, _<_}
+use mathlib.Core.Bool.{Bool, true, false}
+use mathlib.Core.Path.{_≡_, refl, sym, ap, _∙_}
+use mathlib.Core.List.{List, [], _∷_}
+use native.Mathlib.Numerals.{add-one}
+use native.Mathlib.Omega.{arith}
+use borrow.Author.Tests.{le-leb, leb-true, ltb-true}
+use lib.Dec.{leb}
+use lib.ListN.{length, drop, getD, set, length-drop, drop-of-length-le}
+use lib.Seq.{sets, drop-cons}
+use Rattle.choice.specs.Pick.{pick, and, pick-yes, pick-no, and-fst, and-snd, and-both}
+use Rattle.event_input.specs.Events.{HOST}
+use Rattle.event_line.specs.declared.Line.{Line}
+use Rattle.event_line.specs.Line.{lineOf, written}
+use Rattle.event_line.proofs.Lines.{line-none-long, written-yes}
+use Rattle.event_answer.specs.declared.EventBox.{EventBox}
+use Rattle.event_open.specs.declared.Opened.{Opened}
+use Rattle.event_open.specs.declared.Run.{Run}
+use Rattle.event_open.specs.Inside.{LINE, isOpen, begins, keeps, ended, keptRun, filledTo, stays, ranTo, openRun}
+use Rattle.event_open.proofs.Opens.{held-within}
+
+-- fewer than two bytes are no event of kind 01
+pub run-short : (s : List ℕ) (u : ℕ) (d : List ℕ) (n : ℕ) (r : List ℕ) (f : ℕ) (on : Bool) → length s < 2 → ended u d n r f ≡ keptRun s u d n r f on
+unfolding keptRun
+run-short [] u d n r f on h = refl
+run-short (k ∷ []) u d n r f on h = refl
+run-short (k ∷ b ∷ s) u d n r f on h = absurd (omega arith)
+
+-- the event at index i of s
+module _ (s : List ℕ) (i : ℕ) (h : i + 2 ≤ length s) (d : List ℕ) (n : ℕ) (r : List ℕ) (f : ℕ) (on : Bool) where
+  two : drop i s ≡ getD s i 0 ∷ getD s (i + 1) 0 ∷ drop (i + 2) s
+  two =
+      let p : i + 2 ≡ suc (suc i) = omega arith in
+      rw (p, add-one i, drop-cons s i 0 (omega arith), drop-cons s (suc i) 0 (omega arith))
+
+  pub run-stops : keeps (getD s i 0) (getD s (i + 1) 0) (length d - n) (length r - f) ≡ false → ended i d n r f ≡ keptRun (drop i s) i d n r f on
+  unfolding keptRun pick
+  run-stops e = rw (two, e)
+
+  pub run-keeps : keeps (getD s i 0) (getD s (i + 1) 0) (length d - n) (length r - f) ≡ true
+      → keptRun (drop (i + 2) s) (i + 2) (sets d n (lineOf HOST 0 on [])) (n + 7) (set r f (getD s (i + 1) 0)) (f + 1) on ≡ keptRun (drop i s) i d n r f on
+  unfolding keptRun pick
+  run-keeps e = rw (two, e)
+
+-- where an event is kept there is room for its line, and place for its byte
+pub kept-room : (k b room place : ℕ) → keeps k b room place ≡ true → (LINE ≤ room) × (1 ≤ place)
+unfolding keeps
+kept-room k b room place e = let f = and-snd _ _ (and-snd _ _ e) in (leb-true _ _ (and-fst _ _ f), ltb-true _ _ (and-snd _ _ f))
+
+-- the line that was put
+pub line-put : (on : Bool) (d x : List ℕ) (n : ℕ) {l : Line} → n + 7 ≤ length d → (l, x) ≡ written HOST 0 on [] d n → x ≡ sets d n (lineOf HOST 0 on [])
+line-put on d x n h e =
+    ap (λ (t : Line × List ℕ). t .1) (e ∙ sym (written-yes HOST 0 on [] d n (omega arith) (omega (arith, line-none-long HOST 0 on [] refl))))
+
+-- ---- the answer of `take_open`
+
+module _ (x : EventBox) (s : List ℕ) (at : ℕ) (d : List ℕ) (n : ℕ) (r : List ℕ) (p q : ℕ) where
+  pub run-no : {y : Opened} → y ≡ stays x at n → false ≡ and (begins s at) (and (leb n (length d)) (isOpen (x .tnc) (x .channel) r p q))
+      → (y, d, r) ≡ openRun x s at d n r p q
+  unfolding openRun
+  run-no e f = pick-no _ (sym f) (λ t. (e t, d, r))
+
+  pub run-yes : {k : Run} {e g : List ℕ} {y : EventBox} → (k, e, g) ≡ keptRun (drop at s) at d n r (x .tnc .buffer .filled) (x .tnc .ptt) → y ≡ filledTo x (k .filled)
+      → begins s at ≡ true → n ≤ length d → isOpen (x .tnc) (x .channel) r p q ≡ true
+      → (record { used = k .used; wrote = k .wrote; after = y }, e, g) ≡ openRun x s at d n r p q
+  unfolding openRun
+  run-yes {k} {e} {g} {y} f h a b c =
+      pick-yes _ (and-both a (and-both (le-leb n (length d) b) c)) ((λ t. (record { used = k .used; wrote = k .wrote; after = h t }, e, g)) ∙ ap (ranTo x) f)
+
+  pub begins-within : begins s at ≡ true → at ≤ length s
+  unfolding begins
+  begins-within e = let h : at < length s = ltb-true at (length s) (and-fst _ _ e) in omega arith
+
+  pub open-within : isOpen (x .tnc) (x .channel) r p q ≡ true → x .tnc .buffer .filled ≤ length r
+  unfolding isOpen
+  open-within e = held-within (x .tnc) p q r (and-fst _ _ e) (and-fst _ _ (and-snd _ _ e))
