@@ -13,6 +13,10 @@ use Rattle.event_answer.specs.declared.Applied.{Applied}
 abbrev pub MOST : ℕ
 MOST = 255
 
+-- the most bytes of a line: 8, and two digits for each of those
+abbrev pub LINE : ℕ
+LINE = 518
+
 -- PTT; a state out of bounds has none, and prints 0
 abbrev pub onFlag : Ptt → Bool
 onFlag Off = false

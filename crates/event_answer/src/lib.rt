@@ -23,6 +23,9 @@ pub struct Applied {
 // The most bytes that an event prints: 09 asks for at most 255.
 pub const MOST_BYTES: usize = 255;
 
+// The most bytes of a line: 8, and two digits for each of 255 bytes.
+pub const LINE_LEN: usize = 518;
+
 pub fn answer(number: u8, count: usize, tnc: Tnc, channel: Channel) -> Applied
     ensures { λ r. ⌜ r ≡ answered number count tnc channel ⌝ }
 {

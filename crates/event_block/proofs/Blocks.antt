@@ -17,10 +17,11 @@ use Rattle.event_input.specs.declared.Next.the-variants.{Complete, Cut, Unknown
 use Rattle.event_input.specs.Events.{known, bodyLen, nextAt}
 use Rattle.event_input.specs.Promises.{Whole}
 use Rattle.event_line.proofs.Lines.{written-yes}
+use Rattle.event_answer.specs.Answer.{LINE}
 use Rattle.event_step.specs.Step.{applied}
 use Rattle.event_end.specs.End.{placeAfter}
 use Rattle.event_turn.specs.Spot.{Spot, spot, shown, stepped}
-use Rattle.event_block.specs.Block.{LINE, lineFor, turned, Block, block, complete, ready, walk}
+use Rattle.event_block.specs.Block.{lineFor, turned, Block, block, complete, ready, walk}
 use Rattle.event_block.proofs.Numbers.{one-digit, line-fits}
 
 -- ---- one event and its line
@@ -52,7 +53,7 @@ unfolding walk
 walk-end s i u p h = rw (drop-of-length-le s h)
 
 -- one event at the head of a list
-cons-yes : (k : ℕ) (s : List ℕ) (u : ℕ) (p : Spot) → ready k s p ≡ true → walk 0 (k ∷ s) u p ≡ walk 0 (drop (bodyLen k) s) (u + 1 + bodyLen k) (turned k (take (bodyLen k) s) p)
+pub cons-yes : (k : ℕ) (s : List ℕ) (u : ℕ) (p : Spot) → ready k s p ≡ true → walk 0 (k ∷ s) u p ≡ walk 0 (drop (bodyLen k) s) (u + 1 + bodyLen k) (turned k (take (bodyLen k) s) p)
 unfolding walk pick
 cons-yes k s u p e = rw e (walk-skip (bodyLen k) s _ _)
 

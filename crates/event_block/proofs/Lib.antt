@@ -1,3 +1,4 @@
 pub mod Numbers
 pub mod Blocks
+pub mod Opens
 pub mod Whole

@@ -28,9 +28,10 @@ use Rattle.tnc_clock.specs.Clock.{nowSet, endTimeSet}
 use Rattle.any_calls.specs.Calls.{World, Call, writeKiss, readKiss, handleLsf, handlePacket, handleStream, setDataCarrierDetect, setNow, setTxEndTime, ptt, readTxFrame, writes, reads, hears, lsfIn, packetIn, streamIn, gives, number}
 use Rattle.event_line.specs.Line.{lineOf}
 use Rattle.event_line.proofs.Lines.{line-most}
+use Rattle.event_answer.specs.Answer.{LINE}
 use Rattle.event_step.specs.Step.{Turn, callOf, numberOf, made, notMade, perhaps, applied}
 use Rattle.event_turn.specs.Spot.{shown}
-use Rattle.event_block.specs.Block.{LINE, lineFor}
+use Rattle.event_block.specs.Block.{lineFor}
 
 write-digit : (a : WriteAnswer) → writeNumber a ≤ 9
 write-digit Written = omega arith

@@ -8,13 +8,9 @@ use lib.Seq.{sets}
 use Rattle.choice.specs.Pick.{pick, and}
 use Rattle.event_input.specs.Events.{known, bodyLen}
 use Rattle.event_line.specs.Line.{lineOf}
-use Rattle.event_answer.specs.Answer.{MOST}
+use Rattle.event_answer.specs.Answer.{MOST, LINE}
 use Rattle.event_step.specs.Step.{Turn, applied}
 use Rattle.event_turn.specs.Spot.{Spot, spot, shown}
-
--- the most bytes of a line
-abbrev pub LINE : ℕ
-LINE = 518
 
 -- ---- one event
 

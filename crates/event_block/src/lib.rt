@@ -1,5 +1,6 @@
 // The events of a block of input, each applied and its line written.
 use event_answer::EventBox;
+use event_answer::LINE_LEN;
 use event_answer::MOST_BYTES;
 use event_input::Next;
 ghost use mathlib.Core.Path.{_≡_};
@@ -8,9 +9,6 @@ ghost use lib.ListN.{length};
 ghost use Rattle.event_step.specs.Step.{worldOf};
 ghost use Rattle.event_turn.specs.Spot.{spot};
 ghost use Rattle.event_block.specs.Block.{block, blockRun};
-
-// The most bytes of a line: 8, and two digits for each of 255 bytes.
-pub const LINE_LEN: usize = 518;
 
 pub struct Block {
     // How many bytes of the block were used, and how many written.
@@ -61,9 +59,21 @@ pub fn run_block(
             message,
             bytes,
         );
-        station = turn.after;
-        wrote = turn.wrote;
-        at = next;
+        let after = turn.after;
+        // bytes that complete no frame are most of a host's, and follow each other
+        let open = event_open::take_open(
+            after,
+            src,
+            next,
+            dst,
+            turn.wrote,
+            reader,
+            packets.len(),
+            streams.len(),
+        );
+        station = open.after;
+        wrote = open.wrote;
+        at = open.used;
     }
     Block {
         used: at,

@@ -1,15 +1,15 @@
 -- One event of a run, and where a run ends. Assumes nothing.
 use Prim.Native.Nat.{ℕ, suc, _+_, _-_, _≤_, _<_}
 use mathlib.Core.Bool.{Bool, true, false}
-use mathlib.Core.Path.{_≡_, refl, sym, ap, _∙_}
+use mathlib.Core.Path.{_≡_, refl, sym, ap, _∙_, subst}
 use mathlib.Core.List.{List, [], _∷_}
 use native.Mathlib.Numerals.{add-one}
 use native.Mathlib.Omega.{arith}
 use borrow.Author.Tests.{le-leb, leb-true, ltb-true}
 use lib.Dec.{leb}
 use lib.ListN.{length, drop, getD, set, length-drop, drop-of-length-le}
-use lib.Seq.{sets, drop-cons}
-use Rattle.choice.specs.Pick.{pick, and, pick-yes, pick-no, and-fst, and-snd, and-both}
+use lib.Seq.{sets, length-sets, drop-cons}
+use Rattle.choice.specs.Pick.{pick, pick-all, and, pick-yes, pick-no, and-fst, and-snd, and-both}
 use Rattle.event_input.specs.Events.{HOST}
 use Rattle.event_line.specs.declared.Line.{Line}
 use Rattle.event_line.specs.Line.{lineOf, written}
@@ -17,7 +17,8 @@ use Rattle.event_line.proofs.Lines.{line-none-long, written-yes}
 use Rattle.event_answer.specs.declared.EventBox.{EventBox}
 use Rattle.event_open.specs.declared.Opened.{Opened}
 use Rattle.event_open.specs.declared.Run.{Run}
-use Rattle.event_open.specs.Inside.{LINE, isOpen, begins, keeps, ended, keptRun, filledTo, stays, ranTo, openRun}
+use Rattle.event_answer.specs.Answer.{LINE}
+use Rattle.event_open.specs.Inside.{isOpen, begins, keeps, ended, keptRun, filledTo, stays, ranTo, openRun}
 use Rattle.event_open.proofs.Opens.{held-within}
 
 -- fewer than two bytes are no event of kind 01
@@ -75,3 +76,30 @@ module _ (x : EventBox) (s : List ℕ) (at : ℕ) (d : List ℕ) (n : ℕ) (r : 
   pub open-within : isOpen (x .tnc) (x .channel) r p q ≡ true → x .tnc .buffer .filled ≤ length r
   unfolding isOpen
   open-within e = held-within (x .tnc) p q r (and-fst _ _ e) (and-fst _ _ (and-snd _ _ e))
+
+-- ---- how far a run goes
+
+pub run-bounds : (s : List ℕ) (u : ℕ) (d : List ℕ) (n : ℕ) (r : List ℕ) (f : ℕ) (on : Bool) → n ≤ length d
+    → let k = keptRun s u d n r f on in (u ≤ k .0 .used) × (k .0 .used ≤ u + length s) × (k .0 .wrote ≤ length d)
+unfolding keptRun
+run-bounds [] u d n r f on h = (omega arith, omega arith, h)
+run-bounds (k ∷ []) u d n r f on h = (omega arith, omega arith, h)
+run-bounds (k ∷ b ∷ s) u d n r f on h =
+    pick-all (λ (t : Run × List ℕ × List ℕ). (u ≤ t .0 .used) × (t .0 .used ≤ u + length (k ∷ b ∷ s)) × (t .0 .wrote ≤ length d)) _ _ _
+    (λ e.
+    let room = kept-room k b (length d - n) (length r - f) e in
+    let l = length-sets d n (lineOf HOST 0 on []) in
+    let i = run-bounds s (u + 2) (sets d n (lineOf HOST 0 on [])) (n + 7) (set r f b) (f + 1) on (omega (arith, room, l)) in
+    (omega (arith, i), omega (arith, i), omega (arith, i, l)))
+    (λ e. (omega arith, omega arith, h))
+
+pub open-bounds : (x : EventBox) (s : List ℕ) (at : ℕ) (d : List ℕ) (n : ℕ) (r : List ℕ) (p q : ℕ) → at ≤ length s → n ≤ length d
+    → {y : Opened} {e g : List ℕ} → (y, e, g) ≡ openRun x s at d n r p q → (at ≤ y .used) × (y .used ≤ length s) × (y .wrote ≤ length d)
+unfolding openRun
+open-bounds x s at d n r p q h k {y} {e} {g} f =
+    subst (λ (t : Opened × List ℕ × List ℕ). (at ≤ t .0 .used) × (t .0 .used ≤ length s) × (t .0 .wrote ≤ length d)) (sym f)
+    (pick-all (λ (t : Opened × List ℕ × List ℕ). (at ≤ t .0 .used) × (t .0 .used ≤ length s) × (t .0 .wrote ≤ length d)) _ _ _
+    (λ c.
+    let b = run-bounds (drop at s) at d n r (x .tnc .buffer .filled) (x .tnc .ptt) k in
+    (omega (arith, b), omega (arith, b, length-drop at s), omega (arith, b)))
+    (λ c. (omega arith, omega arith, k)))

@@ -15,12 +15,9 @@ use Rattle.link_ready.specs.Ready.{linkFits}
 use Rattle.event_input.specs.Events.{HOST}
 use Rattle.event_line.specs.Line.{lineOf}
 use Rattle.event_answer.specs.declared.EventBox.{EventBox}
+use Rattle.event_answer.specs.Answer.{LINE}
 use Rattle.event_open.specs.declared.Opened.{Opened}
 use Rattle.event_open.specs.declared.Run.{Run}
-
--- the most bytes of a line
-abbrev pub LINE : ℕ
-LINE = 518
 
 -- a frame is open: a FEND, and none behind it
 unfoldable pub opened : List ℕ → Bool

@@ -1,6 +1,7 @@
 // A run of events 01 whose bytes complete no frame: each byte is kept, its line is put, and nothing else changes, so that only the reader's store and its count are touched.
 use channel::Channel;
 use event_answer::EventBox;
+use event_answer::LINE_LEN;
 use kiss_buffer::KissBuffer;
 use kiss_escape::FEND;
 use tnc_core::Tnc;
@@ -8,9 +9,6 @@ ghost use mathlib.Core.Path.{_≡_};
 ghost use Prim.Native.Nat.{_≤_};
 ghost use lib.ListN.{length, take, drop};
 ghost use Rattle.event_open.specs.Inside.{opened, isOpen, begins, keeps, keptRun, filledTo, stays, openRun};
-
-// The most bytes of a line: 8, and two digits for each of 255 bytes.
-pub const LINE_LEN: usize = 518;
 
 // The kind of an event that brings a byte from the host.
 const HOST: u8 = 1;

@@ -20,6 +20,8 @@ use Rattle.event_step.specs.Step.{worldOf}
 use Rattle.event_turn.specs.Spot.{Spot, spot}
 use Rattle.event_block.specs.Block.{walk, blockRun}
 use Rattle.event_block.proofs.Blocks.{steps-most, walk-full, stops, isWhole, on}
+use Rattle.event_open.proofs.Runs.{open-bounds}
+use Rattle.event_block.proofs.Opens.{open-walks}
 use Rattle.event_block.proofs.run_block.Statement.{statement}
 use Rattle.event_block.proofs.run_block.Tie as tie
 
@@ -53,22 +55,43 @@ part-step-start c = omega (arith, whole c .ends, whole c .starts, whole c .withi
 part-step-end : tie.Need-part-step-end Inv-loop μ-loop
 part-step-end c = omega (arith, whole c .ends, whole c .starts, whole c .within)
 
+-- what a turn leaves behind the event that stands at `at`, before the bytes that complete no frame
+abbrev spot-at : tie.At-loop Inv-loop μ-loop → Spot
+spot-at l = spot (worldOf (l .loop .station) (l .loop .reader) (l .loop .packets) (l .loop .streams) (l .loop .rx) (l .loop .message)) (l .loop .bytes) (l .loop .dst) (l .loop .wrote)
+
+-- the line of the event has room
+line-within : (c : tie.After-step Inv-loop μ-loop) → c .step .result .wrote ≤ length (c .step .last .1 .1 .1 .0)
+line-within c =
+    let l = c .before .before .before .before .before .before .before .before .before .before .before .before .before .before in let room = c .before .before .before .before .before .before .before .before .before .before .before .before .before .loop-test .taken in let t = c .step in
+    omega (arith, steps-most _ _ (spot-at l) (omega (arith, room, l .loop .inv .1)) (t .result .wrote) (ap (λ (q : Spot). q .wrote) (t .ensures)), room, l .loop .inv .1, t .kept .1 .1 .1 .0)
+
+-- how far the bytes that complete no frame go
+bounds : (c : tie.After-station Inv-loop μ-loop) → let o = c .before .before .before .before .before .take-open in let s = c .before .before .before .before .before .before .before .before .before .before .before .before .before .before .before .before .before .before .before .before .before .before .before .step in
+    (c .before .before .before .before .before .before .before .before .before .before .before .before .before .before .before .before .before .before .before .before .before .before .before .before .before .before .before .before .before .before .before .before .before .kind .given .0 .1 .1 .0 ≤ o .result .used) × (o .result .used ≤ length (c .before .before .before .before .before .before .before .before .before .before .before .before .before .before .before .before .before .before .before .before .before .before .before .before .before .before .before .before .before .before .before .before .before .before .before .before .before .before .before .before .before .before .before .before .before .before .before .args .src .now)) × (o .result .wrote ≤ length (s .last .1 .1 .1 .0))
+bounds c =
+    let o = c .before .before .before .before .before .take-open in let s = c .before .before .before .before .before .before .before .before .before .before .before .before .before .before .before .before .before .before .before .before .before .before .before .step in
+    open-bounds (s .result .after) (c .before .before .before .before .before .before .before .before .before .before .before .before .before .before .before .before .before .before .before .before .before .before .before .before .before .before .before .before .before .before .before .before .before .before .before .before .before .before .before .before .before .before .before .before .before .before .before .args .src .now) _ (s .last .1 .1 .1 .0) (s .result .wrote) _ _ _ (whole (c .before .before .before .before .before .before .before .before .before .before .before .before .before .before .before .before .before .before .before .before .before .before .before .before .before .before .before .before .before .before .before .before) .within) (line-within (c .before .before .before .before .before .before .before .before .before .before .before .before .before .before .before .before .before .before .before .before .before .before .before)) (o .ensures)
+
 loop-less : tie.Need-loop-less Inv-loop μ-loop
-loop-less c = omega (arith, whole (c .before .before .before .before .before .before .before .before .before .before .before .before .before .before .before .before .before .before .before .before .before .before .before .before) .ends, whole (c .before .before .before .before .before .before .before .before .before .before .before .before .before .before .before .before .before .before .before .before .before .before .before .before) .within)
+loop-less c = let w = whole (c .before .before .before .before .before .before .before .before .before .before .before .before .before .before .before .before .before .before .before .before .before .before .before .before .before .before .before .before .before .before .before .before) in omega (arith, w .ends, w .within, bounds c)
 
 loop-again : tie.Need-loop-again Inv-loop μ-loop
 loop-again c =
-    let l = c .before .before .before .before .before .before .before .before .before .before .before .before .before .before .before .before .before .before .before .before .before .before .before .before .before .before .before .before .before .loop in let w = whole (c .before .before .before .before .before .before .before .before .before .before .before .before .before .before .before .before .before .before .before .before .before .before .before .before) in let t = c .before .before .before .before .before .before .before .before .before .before .before .before .before .before .before .step in (
-      w .within,
-      omega (arith, steps-most _ _ (spot (worldOf (l .station) (l .reader) (l .packets) (l .streams) (l .rx) (l .message)) (l .bytes) (l .dst) (l .wrote)) (omega (arith, c .before .before .before .before .before .before .before .before .before .before .before .before .before .before .before .before .before .before .before .before .before .before .before .before .before .before .before .before .loop-test .taken, l .inv .1)) (t .result .wrote) (ap (λ (q : Spot). q .wrote) (t .ensures)), c .before .before .before .before .before .before .before .before .before .before .before .before .before .before .before .before .before .before .before .before .before .before .before .before .before .before .before .before .loop-test .taken, l .inv .1, t .kept .1 .1 .1 .0),
-      t .kept .1 .1 .1 .0 ∙ l .inv .2,
-      t .kept .1 .1 .1 .1 .1 .0 ∙ l .inv .3,
+    let l = c .before .before .before .before .before .before .before .before .before .before .before .before .before .before .before .before .before .before .before .before .before .before .before .before .before .before .before .before .before .before .before .before .before .before .before .before .before .loop in let t = c .before .before .before .before .before .before .before .before .before .before .before .before .before .before .before .before .before .before .before .before .before .before .before .step in let o = c .before .before .before .before .before .take-open in let src = c .before .before .before .before .before .before .before .before .before .before .before .before .before .before .before .before .before .before .before .before .before .before .before .before .before .before .before .before .before .before .before .before .before .before .before .before .before .before .before .before .before .before .before .before .before .before .before .args .src .now in (
+      bounds c .1,
+      omega (arith, bounds c, o .kept .1 .1 .1 .0),
+      o .kept .1 .1 .1 .0 ∙ t .kept .1 .1 .1 .0 ∙ l .inv .2,
+      o .kept .1 .1 .1 .1 .1 .0 ∙ t .kept .1 .1 .1 .1 .1 .0 ∙ l .inv .3,
       t .kept .1 .1 .1 .1 .1 .1 .0 ∙ l .inv .4,
       t .kept .1 .1 .1 .1 .1 .1 .1 .0 ∙ l .inv .5,
       t .kept .1 .1 .1 .1 .1 .1 .1 .1 .0 ∙ l .inv .6,
       t .kept .1 .1 .1 .1 .1 .1 .1 .1 .1 .0 ∙ l .inv .7,
       t .kept .1 .1 .1 .1 .1 .1 .1 .1 .1 .1 .0 ∙ l .inv .8,
-      on (c .before .before .before .before .before .before .before .before .before .before .before .before .before .before .before .before .before .before .before .before .before .before .before .before .before .before .before .before .before .before .before .before .before .before .before .before .before .before .before .args .src .now) (l .at) _ _ _ (spot (worldOf (l .station) (l .reader) (l .packets) (l .streams) (l .rx) (l .message)) (l .bytes) (l .dst) (l .wrote)) _ w (c .before .before .before .before .before .before .before .before .before .before .before .before .before .before .before .before .before .before .before .before .before .before .before .before .before .before .before .before .loop-test .taken) (l .inv .1) (t .ensures) ∙ l .inv .9,
+      open-walks (t .result .after) src _ (t .last .1 .1 .1 .0) (t .result .wrote) (t .last .1 .1 .1 .1 .1 .0) (t .last .1 .1 .1 .1 .1 .1 .0) (t .last .1 .1 .1 .1 .1 .1 .1 .0)
+          (t .last .1 .1 .1 .1 .1 .1 .1 .1 .0) (t .last .1 .1 .1 .1 .1 .1 .1 .1 .1 .0) (t .last .1 .1 .1 .1 .1 .1 .1 .1 .1 .1 .0)
+          (omega (arith, c .before .before .before .before .before .before .before .before .before .before .before .before .before .before .before .before .before .before .before .before .before .before .before .before .before .before .before .before .before .before .before .before .before .before .before .before .before .before .if1 .left, t .kept .1 .1 .1 .1 .1 .1 .1 .1 .1 .1 .0, l .inv .8)) (o .ensures)
+          ∙ on src (l .at) _ _ _ (spot-at (c .before .before .before .before .before .before .before .before .before .before .before .before .before .before .before .before .before .before .before .before .before .before .before .before .before .before .before .before .before .before .before .before .before .before .before .before .before)) _ (whole (c .before .before .before .before .before .before .before .before .before .before .before .before .before .before .before .before .before .before .before .before .before .before .before .before .before .before .before .before .before .before .before .before)) (c .before .before .before .before .before .before .before .before .before .before .before .before .before .before .before .before .before .before .before .before .before .before .before .before .before .before .before .before .before .before .before .before .before .before .before .before .loop-test .taken) (l .inv .1) (t .ensures)
+          ∙ l .inv .9,
     )
 
 returns-2 : tie.Need-returns-2 Inv-loop μ-loop
@@ -101,6 +124,7 @@ run-block-spec =
     sub-step
     part-step-start
     part-step-end
+    (λ c κs. search needs)
     (λ c κs. search needs)
     loop-less
     loop-again

@@ -7,7 +7,8 @@ use native.Mathlib.Omega.{arith}
 use borrow.Author.Needs.{needs}
 use lib.ListN.{length, drop, getD, set, length-drop, length-set}
 use Rattle.choice.specs.Pick.{not-yes, not-no}
-use Rattle.event_open.specs.Inside.{LINE, keeps, keptRun}
+use Rattle.event_answer.specs.Answer.{LINE}
+use Rattle.event_open.specs.Inside.{keeps, keptRun}
 use Rattle.event_open.proofs.Runs.{run-short, run-stops, run-keeps, kept-room, line-put}
 use Rattle.event_open.proofs.keep_bytes.Statement.{statement}
 use Rattle.event_open.proofs.keep_bytes.Tie as tie
@@ -43,9 +44,9 @@ loop-again c =
       p .kept .1 .1 .1 .1 .0 ∙ l .inv .3,
       simp length-set (l .inv .4),
       ap (λ (d : List ℕ). keptRun (drop (l .i + 2) (a .src .now)) (l .i + 2) d (l .j + 7) (set (l .reader) (l .n) (getD (a .src .now) (l .i + 1) 0)) (l .n + 1) (a .on))
-      (line-put (a .on) (l .dst) _ (l .j) (omega (arith, roomy e)) (p .ensures))
-      ∙ run-keeps (a .src .now) (l .i) two (l .dst) (l .j) (l .reader) (l .n) (a .on) (kept e)
-      ∙ l .inv .5,
+          (line-put (a .on) (l .dst) _ (l .j) (omega (arith, roomy e)) (p .ensures))
+          ∙ run-keeps (a .src .now) (l .i) two (l .dst) (l .j) (l .reader) (l .n) (a .on) (kept e)
+          ∙ l .inv .5,
     )
 
 returns : tie.Need-returns Inv-loop μ-loop
