@@ -62,7 +62,7 @@ pub fn escaped_len(src: &[u8]) -> usize
     n
 }
 
-// Writes src, escaped, at the start of dst, which has the room for it, and returns how many bytes that took. Sixteen bytes are done one by one before whole
+// Writes src, escaped, at the start of dst, which has the room for it, and returns how many bytes that took. Eight bytes are done one by one before whole
 // blocks are tried again, so that bytes that are all to be escaped cost little more than without blocks.
 fn put_escaped(src: &[u8], dst: &mut [u8]) -> usize
     requires { ⌜ length (esc (now src)) ≤ length (now dst) ⌝ }
@@ -76,7 +76,7 @@ fn put_escaped(src: &[u8], dst: &mut [u8]) -> usize
             let n = put_plain(src, i, dst, j);
             i += n;
             j += n;
-            stop = i + 16;
+            stop = i + 8;
             continue;
         }
         let b = src[i];

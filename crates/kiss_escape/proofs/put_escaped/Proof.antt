@@ -18,11 +18,11 @@ Inv-loop src dst₀ i₀ j₀ stop₀ dst i j stop =
     × (length dst ≡ length dst₀)
     × (j + length (esc (drop i src)) ≡ length (esc src))
     × (sets dst j (esc (drop i src)) ≡ sets dst₀ 0 (esc src))
-    × (stop ≤ length src + 16)
+    × (stop ≤ length src + 8)
 
 -- a turn goes on in src, or, with blocks, at least moves the stop
 abbrev μ-loop : tie.MeasureT-loop
-μ-loop src dst₀ i₀ j₀ stop₀ dst i j stop = (length src - i) + (length src + 16 - stop)
+μ-loop src dst₀ i₀ j₀ stop₀ dst i j stop = (length src - i) + (length src + 8 - stop)
 
 abbrev source : tie.At-loop Inv-loop μ-loop → List ℕ
 source l = l .before .before .before .args .src .now
