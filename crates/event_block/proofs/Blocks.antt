@@ -1,16 +1,15 @@
 -- Laws of one event's turn and of walking over a block. Assumes nothing.
-use Prim.Native.Nat.{ℕ, zero, suc, _+_, _-_, _*_, _<_, _≤_}
+use Prim.Native.Nat.{ℕ, zero, suc, _+_, _-_, _<_, _≤_}
 use mathlib.Core.Bool.{Bool, true, false, false≢true}
 use mathlib.Core.Path.{_≡_, refl, sym, ap, _∙_}
-use mathlib.Core.List.{List, [], _∷_, _++_}
+use mathlib.Core.List.{List, [], _∷_}
 use native.Mathlib.Numerals.{add-one}
 use native.Mathlib.Omega.{arith}
 use borrow.Author.Tests.{le-leb, lt-leb, ltb-true, ltb-false}
 use lib.Dec.{ltb, leb}
-use lib.ListN.{length, getD, take, drop, length-take, length-drop, drop-of-length-le}
-use lib.Seq.{sets, drop-cons, drop-drop}
+use lib.ListN.{length, getD, take, drop, length-drop, drop-of-length-le}
+use lib.Seq.{drop-cons, drop-drop}
 use Rattle.choice.specs.Pick.{pick, and, and-both}
-use Rattle.any_calls.specs.Calls.{World}
 use Rattle.event_line.specs.declared.Line.{Line}
 use Rattle.event_input.specs.declared.Next.{Next}
 use Rattle.event_input.specs.declared.Next.the-variants.{Complete, Cut, Unknown, End}
@@ -21,7 +20,7 @@ use Rattle.event_answer.specs.Answer.{LINE}
 use Rattle.event_step.specs.Step.{applied}
 use Rattle.event_end.specs.End.{placeAfter}
 use Rattle.event_turn.specs.Spot.{Spot, spot, shown, stepped}
-use Rattle.event_block.specs.Block.{lineFor, turned, Block, block, complete, ready, walk}
+use Rattle.event_block.specs.Block.{turned, block, complete, ready, walk}
 use Rattle.event_block.proofs.Numbers.{one-digit, line-fits}
 
 -- ---- one event and its line

@@ -1,11 +1,10 @@
 -- Every event's number has one digit, and its line at most 518 bytes. Assumes nothing.
-use Prim.Native.Nat.{ℕ, _+_, _≤_, min}
-use mathlib.Core.Path.{_≡_}
+use Prim.Native.Nat.{ℕ, _≤_, min}
 use mathlib.Core.List.{List}
 use mathlib.Core.Option.{Option, none, some}
 use native.Mathlib.Omega.{arith}
-use lib.ListN.{length, take, length-take}
-use Rattle.choice.specs.Pick.{pick, pick-all}
+use lib.ListN.{length, length-take}
+use Rattle.choice.specs.Pick.{pick-all}
 use Rattle.channel.specs.declared.ChannelAnswer.{ChannelAnswer}
 use Rattle.channel.specs.declared.ChannelAnswer.the-variants.{Done as Set, OutOfRange as SetRange, OutOfBounds as SetBounds}
 use Rattle.channel.specs.Access.{carrierSet, setNumber}
@@ -26,7 +25,6 @@ use Rattle.tnc_core.specs.declared.Ptt.the-variants.{Off, On, OutOfBounds as No
 use Rattle.tnc_core.specs.Tnc.{pttOf, pttNumber}
 use Rattle.tnc_clock.specs.Clock.{nowSet, endTimeSet}
 use Rattle.any_calls.specs.Calls.{World, Call, writeKiss, readKiss, handleLsf, handlePacket, handleStream, setDataCarrierDetect, setNow, setTxEndTime, ptt, readTxFrame, writes, reads, hears, lsfIn, packetIn, streamIn, gives, number}
-use Rattle.event_line.specs.Line.{lineOf}
 use Rattle.event_line.proofs.Lines.{line-most}
 use Rattle.event_answer.specs.Answer.{LINE}
 use Rattle.event_step.specs.Step.{Turn, callOf, numberOf, made, notMade, perhaps, applied}

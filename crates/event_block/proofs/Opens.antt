@@ -1,12 +1,11 @@
 -- A run of bytes that complete no frame leaves what its events leave one by one. Assumes nothing.
-use Prim.Native.Nat.{ℕ, zero, suc, _+_, _-_, _≤_, _<_, min}
+use Prim.Native.Nat.{ℕ, _+_, _-_, _≤_, _<_, min}
 use mathlib.Core.Bool.{Bool, true, false, not, false≢true}
 use mathlib.Core.Path.{_≡_, refl, sym, ap, ap₂, _∙_, subst}
 use mathlib.Core.List.{List, [], _∷_, _++_}
 use native.Mathlib.Omega.{arith}
-use borrow.Author.Tests.{le-leb, leb-true, ltb-true, eqb-true}
-use lib.Dec.{leb, ltb, eqb}
-use lib.ListN.{length, take, drop, getD, set, length-append, length-take, length-set, take-append-drop}
+use borrow.Author.Tests.{le-leb, eqb-true}
+use lib.ListN.{length, take, drop, set, length-append, length-take, length-set, take-append-drop}
 use lib.Seq.{sets, sets-eq, take-at, drop-drop}
 use Rattle.choice.specs.Pick.{pick, pick-all, and, and-fst, and-snd, and-both}
 use Rattle.store.specs.Room.{over}
@@ -14,11 +13,10 @@ use Rattle.channel.specs.declared.Channel.{Channel}
 use Rattle.channel.specs.Access.{soundChannel}
 use Rattle.kiss_read.specs.Scan.{notFend}
 use Rattle.kiss_reader.specs.Reader.{Reader, STORE, flush, next, afterNext}
-use Rattle.kiss_buffer.specs.declared.KissBuffer.{KissBuffer}
 use Rattle.kiss_buffer.specs.declared.WriteAnswer.the-variants.{Done}
 use Rattle.kiss_buffer.specs.declared.Written.{Written}
 use Rattle.kiss_buffer.specs.declared.NextFrame.{NextFrame}
-use Rattle.kiss_buffer.specs.Calls.{readerOf, bufferOf, soundBuffer, written, found, nextFrame}
+use Rattle.kiss_buffer.specs.Calls.{readerOf, bufferOf, soundBuffer, written, found}
 use Rattle.kiss_buffer.specs.Inside.{accepted}
 use Rattle.kiss_buffer.specs.Promises.{Box, afterNextFrame, Sound}
 use Rattle.kiss_buffer.proofs.Cases.{next-sound, written-roomy}
@@ -50,7 +48,7 @@ use Rattle.event_step.proofs.Events.{on-host}
 use Rattle.event_turn.specs.Spot.{Spot, spot}
 use Rattle.event_open.specs.declared.Opened.{Opened}
 use Rattle.event_open.specs.declared.Run.{Run}
-use Rattle.event_open.specs.Inside.{opened, isOpen, begins, keeps, keptRun, filledTo, openRun}
+use Rattle.event_open.specs.Inside.{opened, isOpen, keeps, keptRun, filledTo, openRun}
 use Rattle.event_open.proofs.Opens.{open-more, open-settled, open-quiet}
 use Rattle.event_open.proofs.Runs.{kept-room}
 use Rattle.event_block.specs.Block.{behind, turned, walk}

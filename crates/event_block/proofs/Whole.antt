@@ -12,7 +12,7 @@ use lib.Seq.{sets, sets-eq, drop-cons, drop-drop, drop-append-le, take-append-le
 use Rattle.choice.specs.Pick.{pick, and, and-both, and-fst, and-snd, pick-all}
 use Rattle.any_calls.specs.Calls.{World}
 use Rattle.event_input.specs.Events.{known, bodyLen}
-use Rattle.event_answer.specs.Answer.{keyed, LINE}
+use Rattle.event_answer.specs.Answer.{LINE}
 use Rattle.event_step.specs.Step.{Turn, applied}
 use Rattle.event_turn.specs.Spot.{Spot, spot}
 use Rattle.event_block.specs.Block.{lineFor, turned, Block, block, complete, ready, walk, blockRun, refusal}

@@ -9,7 +9,7 @@ use Rattle.any_calls.specs.Calls.{World}
 use Rattle.event_input.specs.Events.{bodyLen}
 use Rattle.event_line.specs.Line.{lineOf}
 use Rattle.event_answer.specs.Answer.{keyed}
-use Rattle.event_step.specs.Step.{Turn, applied}
+use Rattle.event_step.specs.Step.{applied}
 use Rattle.event_turn.specs.Spot.{spot}
 use Rattle.event_block.specs.Block.{lineFor, complete, refusal, blockRun}
 

@@ -1,19 +1,19 @@
 -- The tests on the way to a run, and what an open frame is. Assumes nothing.
-use Prim.Native.Nat.{ℕ, suc, _+_, _≤_, _<_}
+use Prim.Native.Nat.{ℕ, suc, _+_, _≤_}
 use mathlib.Core.Bool.{Bool, true, false, not, false≢true}
-use mathlib.Core.Path.{_≡_, refl, sym, ap, _∙_}
+use mathlib.Core.Path.{_≡_, refl, ap}
 use mathlib.Core.Option.{Option, none, Option·map}
 use mathlib.Core.List.{List, [], _∷_, _++_}
 use native.Mathlib.Omega.{arith}
 use borrow.Author.Tests.{eq-eqb, ne-eqb, eqb-true}
 use lib.Dec.{eqb}
-use lib.ListN.{length, drop, getD, length-append}
-use Rattle.choice.specs.Pick.{pick, and, and-fst, and-snd, and-both, and-no, and-go}
+use lib.ListN.{length, drop, getD}
+use Rattle.choice.specs.Pick.{pick, and-fst, and-snd, and-both, and-no, and-go}
 use Rattle.kiss_escape.specs.Escape.{FEND}
-use Rattle.kiss_read.specs.Scan.{isFend, notFend, stretch, afterFends, runOf}
-use Rattle.kiss_read.proofs.Scans.{run-within, stretch-none}
+use Rattle.kiss_read.specs.Scan.{isFend, notFend, afterFends, runOf}
+use Rattle.kiss_read.proofs.Scans.{stretch-none}
 use Rattle.kiss_reader.specs.Meaning.{enclosed}
-use Rattle.kiss_reader.specs.Reader.{fromFend, lastFend, settle, front}
+use Rattle.kiss_reader.specs.Reader.{fromFend, settle, front}
 use Rattle.tnc_core.specs.declared.Tnc.{Tnc}
 use Rattle.tnc_core.specs.Tnc.{soundTnc}
 use Rattle.tnc_core.proofs.Bounds.{parts}

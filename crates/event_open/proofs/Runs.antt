@@ -7,7 +7,7 @@ use native.Mathlib.Numerals.{add-one}
 use native.Mathlib.Omega.{arith}
 use borrow.Author.Tests.{le-leb, leb-true, ltb-true}
 use lib.Dec.{leb}
-use lib.ListN.{length, drop, getD, set, length-drop, drop-of-length-le}
+use lib.ListN.{length, drop, getD, set, length-drop}
 use lib.Seq.{sets, length-sets, drop-cons}
 use Rattle.choice.specs.Pick.{pick, pick-all, and, pick-yes, pick-no, and-fst, and-snd, and-both}
 use Rattle.event_input.specs.Events.{HOST}

@@ -1,7 +1,7 @@
 -- `event_open::frame_is_open` meets its contract. Assumes nothing.
-use mathlib.Core.Path.{_≡_, sym, ap, _∙_}
+use mathlib.Core.Path.{sym, ap, _∙_}
 use borrow.Author.Needs.{needs}
-use lib.ListN.{length, drop, length-drop}
+use lib.ListN.{length-drop}
 use Rattle.kiss_read.specs.Scan.{notFend, runOf}
 use Rattle.kiss_scan.proofs.Fronts.{to-the-end}
 use Rattle.event_open.proofs.Opens.{none-held, not-begun, as-scanned}
