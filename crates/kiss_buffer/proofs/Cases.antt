@@ -1,6 +1,7 @@
 -- What the definitions of the reader's calls come to, case by case, as the code meets the cases. Assumes nothing.
 use mathlib.Core.Path.{_≡_, refl, sym, ap, ap₂, _∙_}
 use mathlib.Core.Bool.{Bool, true, false, not, false≢true}
+use mathlib.Core.Logic.{_⊎_, ⊎-elim}
 use mathlib.Core.Option.{Option, none, some, Option·map}
 use mathlib.Core.List.{List, [], _∷_, _++_}
 use Prim.Native.Nat.{ℕ, _+_, _-_, _≤_, _<_, min}
@@ -236,15 +237,20 @@ module _ (b : KissBuffer) (offered store : List ℕ) (full : length store ≡ ST
       → accepted (length kept) offered (over kept store) ≡ written b offered store
   kept-written kept e q h = writes-kept (readerOf b store) b offered store kept e q h full ∙ written-sound b offered store full sound
 
+  held-short : length (heldFrom 1 (b .filled) store) < STORE
+  held-short = omega (arith, settle-shorter (drop 1 (take (b .filled) store)), length-drop 1 (take (b .filled) store), held-length, sound-filled b store sound)
+
+  pub taken-short : {n : ℕ} {d : List ℕ} → (n, d) ≡ compacted 1 (b .filled) store → n < STORE
+  taken-short p = omega (arith, compacted-count 1 (b .filled) store p, held-short)
+
   -- a frame was taken: it is dropped
   pub written-taken : b .taken ≡ true → {n : ℕ} {d : List ℕ} → (n, d) ≡ compacted 1 (b .filled) store → accepted n offered d ≡ written b offered store
   written-taken t p =
       let k = heldFrom 1 (b .filled) store in
       let f = flush-taken b store t in
-      let l : length k < STORE = omega (arith, settle-shorter (drop 1 (take (b .filled) store)), length-drop 1 (take (b .filled) store), held-length, sound-filled b store sound) in
-      let y = roomy (readerOf b store) (omega (arith, ap length f, l)) in
+      let y = roomy (readerOf b store) (omega (arith, ap length f, held-short)) in
       ap₂ (λ (m : ℕ) (x : List ℕ). accepted m offered x) (compacted-count 1 (b .filled) store p) (compacted-left 1 (b .filled) store p)
-      ∙ kept-written k (y .0) (y .1 ∙ f) (omega arith)
+      ∙ kept-written k (y .0) (y .1 ∙ f) (omega (arith, held-short))
 
   -- there is room: all that is held is kept
   pub written-roomy : b .taken ≡ false → b .filled < STORE → accepted (b .filled) offered store ≡ written b offered store
@@ -272,3 +278,40 @@ module _ (b : KissBuffer) (offered store : List ℕ) (full : length store ≡ ST
       let y = next-of-full t h in
       let z = full-quiet (readerOf b store) (y .0) (ap isSome (y .1) ∙ e) in
       kept-written [] (z .0) (z .1) (omega arith)
+
+-- ---- what a write goes on with: what a taken frame leaves, or all that is held
+
+abbrev pub Left : KissBuffer → List ℕ → ℕ → List ℕ → Type 0
+Left b store n d =
+    (length d ≡ STORE)
+    × (((b .taken ≡ true) × ((n, d) ≡ compacted 1 (b .filled) store)) ⊎ ((b .taken ≡ false) × (d ≡ store) × (n ≡ b .filled)))
+
+module _ (b : KissBuffer) (offered store : List ℕ) (full : length store ≡ STORE) (sound : soundBuffer b store ≡ true) (n : ℕ) (d : List ℕ) (left : Left b store n d) where
+  pub left-within : n ≤ STORE
+  left-within =
+      ⊎-elim (λ w. omega (arith, compacted-within 1 (b .filled) store (w .1), left .0)) (λ w. omega (arith, w .2, sound-filled b store sound)) (left .1)
+
+  -- a store that is full still held no taken frame
+  still-full : n ≡ STORE → (b .taken ≡ false) × (d ≡ store) × (n ≡ b .filled)
+  still-full q = ⊎-elim (λ w. absurd (omega (arith, taken-short b offered store full sound (w .1), q))) (λ w. w) (left .1)
+
+  pub left-written : (n ≡ STORE → ⊥) → accepted n offered d ≡ written b offered store
+  left-written f =
+      ⊎-elim
+      (λ w. written-taken b offered store full sound (w .0) (w .1))
+      (λ w.
+      ap₂ (λ (m : ℕ) (x : List ℕ). accepted m offered x) (w .2) (w .1)
+      ∙ written-roomy b offered store full sound (w .0) (omega (arith, f, w .2, sound-filled b store sound)))
+      (left .1)
+
+  pub left-full : n ≡ STORE → isSome (front (settle d)) ≡ true → notWritten Full b d ≡ written b offered store
+  left-full q e =
+      let w = still-full q in
+      ap (notWritten Full b) (w .1)
+      ∙ written-full b offered store full sound (w .0) (omega (arith, w .2, q)) (ap (λ (x : List ℕ). isSome (front (settle x))) (sym (w .1)) ∙ e)
+
+  pub left-afresh : n ≡ STORE → isSome (front (settle d)) ≡ false → accepted 0 offered d ≡ written b offered store
+  left-afresh q e =
+      let w = still-full q in
+      ap (accepted 0 offered) (w .1)
+      ∙ written-afresh b offered store full sound (w .0) (omega (arith, w .2, q)) (ap (λ (x : List ℕ). isSome (front (settle x))) (sym (w .1)) ∙ e)

@@ -68,18 +68,18 @@ impl KissBuffer {
         if !self.is_sound(store) {
             return refuse(WriteAnswer::OutOfBounds, self);
         }
-        let filled = self.filled;
+        let mut kept = self.filled;
         if self.taken {
-            let kept = compact(store, 1, filled);
-            return accept(offered, store, kept);
+            kept = compact(store, 1, kept);
         }
-        if filled < MAX_FRAME_LEN {
-            return accept(offered, store, filled);
+        // Not where a frame was dropped: that makes room.
+        if kept == MAX_FRAME_LEN {
+            if holds_frame(store) {
+                return refuse(WriteAnswer::Full, self);
+            }
+            kept = 0;
         }
-        if holds_frame(store) {
-            return refuse(WriteAnswer::Full, self);
-        }
-        accept(offered, store, 0)
+        accept(offered, store, kept)
     }
 
     // The next whole frame is brought to the store's start. It stays there until the next call, which drops it.

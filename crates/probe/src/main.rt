@@ -23,22 +23,31 @@ use protocol::Mode;
 use protocol::StreamFrame;
 ghost use Prim.Native.Nat.{_<_};
 
-struct Answer {
-    number: u8,
-    value: usize,
-}
+// An answer is one number: document 01's number times 65536, and the value.
+const VALUES: usize = 65536;
 
-// What lasts from one request to the next.
+const PAYLOAD_TOO_BIG: usize = 65536;
+
+const LSF_WRONG_SIZE: usize = 2 * 65536;
+
+const MALFORMED: usize = 3 * 65536;
+
+const UNSUPPORTED: usize = 4 * 65536;
+
+const FULL: usize = 5 * 65536;
+
+const OUT_OF_RANGE: usize = 6 * 65536;
+
+const NO_ROOM: usize = 7 * 65536;
+
+const OUT_OF_BOUNDS: usize = 8 * 65536;
+
+// What lasts from one request to the next, and the last answer.
 struct Session {
     reader: KissBuffer,
     lich: LichCollection,
+    answer: usize,
     going: bool,
-}
-
-struct Reply {
-    answer: Answer,
-    reader: KissBuffer,
-    lich: LichCollection,
 }
 
 fn main() {
@@ -49,6 +58,7 @@ fn main() {
     let mut s = Session {
         reader: KissBuffer::new(),
         lich: LichCollection::new(),
+        answer: 0,
         going: true,
     };
     let mut turns = u64::MAX;
@@ -68,115 +78,92 @@ fn turn(
     room: &mut [u8; 4096],
     store: &mut [u8; 1713],
 ) -> Session {
-    let reader = s.reader;
-    let lich = s.lich;
+    if !requested(head, body) {
+        return stopped(s);
+    }
+    serve(head, s, body, room, store)
+}
+
+// Whether a request was read whole.
+fn requested(head: &mut [u8; 8], body: &mut [u8]) -> bool {
     if io::read_full(STDIN_FILENO, head) < 8 {
-        return stopped(reader, lich);
+        return false;
     }
-    let first = two(head[4], head[5]);
-    let second = two(head[6], head[7]);
-    if !fetched(first + second, body) {
-        return stopped(reader, lich);
-    }
-    serve(
-        head[0],
-        head[3],
-        first,
-        second,
-        two(head[1], head[2]),
-        reader,
-        lich,
-        body,
-        room,
-        store,
-    )
-}
-
-fn stopped(reader: KissBuffer, lich: LichCollection) -> Session {
-    Session {
-        reader: reader,
-        lich: lich,
-        going: false,
-    }
-}
-
-// Whether n bytes of input were read to the start of body.
-fn fetched(n: usize, body: &mut [u8]) -> bool {
+    let n = two(head, 4) + two(head, 6);
     if body.len() < n {
         return false;
     }
     io::read_full(STDIN_FILENO, &mut body[..n]) == n
 }
 
-fn serve(
-    kind: u8,
-    from: u8,
-    first: usize,
-    second: usize,
-    n: usize,
-    reader: KissBuffer,
-    lich: LichCollection,
-    body: &[u8],
-    room: &mut [u8],
-    store: &mut [u8; 1713],
-) -> Session {
-    if body.len() < first {
-        return stopped(reader, lich);
-    }
-    if body.len() - first < second {
-        return stopped(reader, lich);
+fn stopped(s: Session) -> Session {
+    let mut t = s;
+    t.going = false;
+    t
+}
+
+fn answered(s: Session, answer: usize) -> Session {
+    let mut t = s;
+    t.answer = answer;
+    t
+}
+
+fn serve(head: &[u8], s: Session, body: &[u8], room: &mut [u8], store: &mut [u8; 1713]) -> Session {
+    let first = two(head, 4);
+    let end = first + two(head, 6);
+    let n = two(head, 1);
+    if body.len() < end {
+        return stopped(s);
     }
     if room.len() < n {
-        return stopped(reader, lich);
+        return stopped(s);
     }
-    let end = first + second;
-    tell(
-        kind,
-        from,
+    reply(
+        head,
         &body[..first],
         &body[first..end],
-        reader,
-        lich,
+        s,
         &mut room[..n],
         store,
     )
 }
 
-fn tell(
-    kind: u8,
-    from: u8,
+fn reply(
+    head: &[u8],
     a: &[u8],
     b: &[u8],
-    reader: KissBuffer,
-    lich: LichCollection,
+    s: Session,
     room: &mut [u8],
     store: &mut [u8; 1713],
 ) -> Session {
-    count_up(from, room);
-    let r = ask(kind, a, b, reader, lich, room, store);
-    let answer = r.answer;
-    let after = r.reader;
-    let heard = r.lich;
-    let value = answer.value;
-    let told = [
-        answer.number,
-        (value / 256 % 256) as u8,
-        (value % 256) as u8,
-    ];
-    if !io::write_all(STDOUT_FILENO, &told) {
-        return stopped(after, heard);
-    }
-    Session {
-        reader: after,
-        lich: heard,
-        going: io::write_all(STDOUT_FILENO, room),
-    }
+    count_up(at(head, 3), room);
+    told(ask(at(head, 0), a, b, s, room, store), room)
 }
 
-fn two(high: u8, low: u8) -> usize
+fn told(s: Session, room: &[u8]) -> Session {
+    if !wrote(s.answer, room) {
+        return stopped(s);
+    }
+    s
+}
+
+fn wrote(answer: usize, room: &[u8]) -> bool {
+    let start = [
+        (answer / 65536 % 256) as u8,
+        (answer / 256 % 256) as u8,
+        (answer % 256) as u8,
+    ];
+    if !io::write_all(STDOUT_FILENO, &start) {
+        return false;
+    }
+    io::write_all(STDOUT_FILENO, room)
+}
+
+fn two(s: &[u8], i: usize) -> usize
+    requires { ⌜ i < 8 ⌝ }
     ensures { λ r. ⌜ r < 65536 ⌝ }
 {
-    (high as usize) * 256 + (low as usize)
+    (at(s, i) as usize) * 256 + (at(s, i + 1) as usize)
 }
 
 fn count_up(from: u8, room: &mut [u8]) {
@@ -194,73 +181,65 @@ fn at(s: &[u8], i: usize) -> u8 {
     0
 }
 
-fn given(number: u8, value: usize) -> Answer {
-    Answer {
-        number: number,
-        value: value,
-    }
-}
-
 fn ask(
     kind: u8,
     a: &[u8],
     b: &[u8],
-    reader: KissBuffer,
-    lich: LichCollection,
+    s: Session,
     room: &mut [u8],
     store: &mut [u8; 1713],
-) -> Reply {
+) -> Session {
+    if kind < 32 {
+        return answered(s, plain(kind, a, b, room));
+    }
+    if kind < 48 {
+        return read_step(kind, a, s, room, store);
+    }
+    lich_step(kind, a, s, room)
+}
+
+fn plain(kind: u8, a: &[u8], b: &[u8], room: &mut [u8]) -> usize {
+    if kind < 8 {
+        return built(build(kind, a, b, room));
+    }
+    if kind < 16 {
+        return bytes(kind, a, room);
+    }
+    lsf(kind, lsf_of(a), at(b, 0), room)
+}
+
+fn build(kind: u8, a: &[u8], b: &[u8], room: &mut [u8]) -> Built {
     match kind {
-        0..=31 => Reply {
-            answer: plain(kind, a, b, room),
-            reader: reader,
-            lich: lich,
-        },
-        32..=47 => read_step(kind, a, reader, lich, room, store),
-        48..=255 => lich_step(kind, a, reader, lich, room),
+        1 => kiss_build::new_basic_packet(a, room),
+        2 => kiss_build::new_full_packet(a, b, room),
+        3 => kiss_build::new_stream_setup(a, room),
+        4 => kiss_build::new_stream_data(stream_frame(a), room),
+        _ => build_setting(kind, at(a, 0), at(a, 1), room),
     }
 }
 
-fn plain(kind: u8, a: &[u8], b: &[u8], room: &mut [u8]) -> Answer {
+fn build_setting(kind: u8, port: u8, value: u8, room: &mut [u8]) -> Built {
     match kind {
-        0..=7 => build(kind, a, b, room),
-        8..=15 => bytes(kind, a, room),
-        16..=255 => lsf(kind, a, at(b, 0), room),
+        5 => kiss_build::new_set_tx_delay(port, value, room),
+        6 => kiss_build::new_set_p(port, value, room),
+        _ => kiss_build::set_full_duplex(port, value != 0, room),
     }
 }
 
-fn build(kind: u8, a: &[u8], b: &[u8], room: &mut [u8]) -> Answer {
-    let port = at(a, 0);
-    let value = at(a, 1);
-    match kind {
-        1 => built(kiss_build::new_basic_packet(a, room)),
-        2 => built(kiss_build::new_full_packet(a, b, room)),
-        3 => built(kiss_build::new_stream_setup(a, room)),
-        4 => built(kiss_build::new_stream_data(stream_frame(a), room)),
-        5 => built(kiss_build::new_set_tx_delay(port, value, room)),
-        6 => built(kiss_build::new_set_p(port, value, room)),
-        _ => built(kiss_build::set_full_duplex(port, value != 0, room)),
-    }
-}
-
-fn built(r: Built) -> Answer {
+fn built(r: Built) -> usize {
     match r {
-        Built::Frame(n) => given(0, n),
-        Built::PayloadTooBig => given(1, 0),
-        Built::LsfWrongSize => given(2, 0),
-        Built::OutOfRange => given(6, 0),
-        Built::NoRoom => given(7, 0),
+        Built::Frame(n) => n % VALUES,
+        Built::PayloadTooBig => PAYLOAD_TOO_BIG,
+        Built::LsfWrongSize => LSF_WRONG_SIZE,
+        Built::OutOfRange => OUT_OF_RANGE,
+        Built::NoRoom => NO_ROOM,
     }
 }
 
 // Laid out as the body of event 07.
 fn stream_frame(a: &[u8]) -> StreamFrame {
-    let mut part = [0u8; 5];
-    let mut content = [0u8; 16];
-    if a.len() == 25 {
-        store::copy_in(&a[1..6], &mut part, 0);
-        store::copy_in(&a[9..25], &mut content, 0);
-    }
+    let part = part_of(a);
+    let content = content_of(a);
     StreamFrame {
         lich_idx: at(a, 0),
         lich_part: part,
@@ -270,73 +249,106 @@ fn stream_frame(a: &[u8]) -> StreamFrame {
     }
 }
 
-fn bytes(kind: u8, a: &[u8], room: &mut [u8]) -> Answer {
+fn part_of(a: &[u8]) -> [u8; 5] {
+    let mut part = [0u8; 5];
+    if a.len() == 25 {
+        store::copy_in(&a[1..6], &mut part, 0);
+    }
+    part
+}
+
+fn content_of(a: &[u8]) -> [u8; 16] {
+    let mut content = [0u8; 16];
+    if a.len() == 25 {
+        store::copy_in(&a[9..25], &mut content, 0);
+    }
+    content
+}
+
+fn bytes(kind: u8, a: &[u8], room: &mut [u8]) -> usize {
     match kind {
-        8 => given(0, crc::m17_crc(a) as usize),
+        8 => crc::m17_crc(a) as usize,
         9 => port(a),
         10 => command(a),
         11 => payload(a, room),
         12 => escaped(a, room),
-        13 => given(0, kiss_unescape::unescape(a, room)),
-        _ => given(0, kiss_escape::escaped_len(a)),
+        13 => kiss_unescape::unescape(a, room) % VALUES,
+        _ => kiss_escape::escaped_len(a) % VALUES,
     }
 }
 
-fn port(a: &[u8]) -> Answer {
+fn port(a: &[u8]) -> usize {
     match kiss_read::port(a) {
-        PortRead::Port(n) => given(0, n as usize),
-        PortRead::MalformedKissFrame => given(3, 0),
+        PortRead::Port(n) => n as usize,
+        PortRead::MalformedKissFrame => MALFORMED,
     }
 }
 
-fn command(a: &[u8]) -> Answer {
+fn command(a: &[u8]) -> usize {
     match kiss_read::command(a) {
-        CommandRead::Command(c) => given(0, c.proto_value() as usize),
-        CommandRead::MalformedKissFrame => given(3, 0),
-        CommandRead::UnsupportedKissCommand => given(4, 0),
+        CommandRead::Command(c) => c.proto_value() as usize,
+        CommandRead::MalformedKissFrame => MALFORMED,
+        CommandRead::UnsupportedKissCommand => UNSUPPORTED,
     }
 }
 
-fn payload(a: &[u8], room: &mut [u8]) -> Answer {
+fn payload(a: &[u8], room: &mut [u8]) -> usize {
     match kiss_read::decode_payload(a, room) {
-        Decoded::Payload(n) => given(0, n),
-        Decoded::MalformedKissFrame => given(3, 0),
+        Decoded::Payload(n) => n % VALUES,
+        Decoded::MalformedKissFrame => MALFORMED,
     }
 }
 
-fn escaped(a: &[u8], room: &mut [u8]) -> Answer {
+fn escaped(a: &[u8], room: &mut [u8]) -> usize {
     match kiss_escape::escape(a, room) {
-        Escaped::Wrote(n) => given(0, n),
-        Escaped::NoRoom => given(7, 0),
+        Escaped::Wrote(n) => n % VALUES,
+        Escaped::NoRoom => NO_ROOM,
     }
 }
 
-// A call on the LSF a; a setter's LSF goes into the room.
-fn lsf(kind: u8, a: &[u8], v: u8, room: &mut [u8]) -> Answer {
+fn lsf_of(a: &[u8]) -> LsfFrame {
     let mut all = [0u8; 30];
     store::copy_in(a, &mut all, 0);
-    let f = LsfFrame(all);
+    LsfFrame(all)
+}
+
+// A setter's LSF goes into the room.
+fn lsf(kind: u8, f: LsfFrame, v: u8, room: &mut [u8]) -> usize {
+    if kind < 21 {
+        return lsf_number(kind, f);
+    }
+    if kind == 21 {
+        return put(&f.meta(), room);
+    }
+    put_lsf(lsf_set(kind, v, f), room)
+}
+
+fn lsf_number(kind: u8, f: LsfFrame) -> usize {
     match kind {
-        16 => given(0, f.check_crc() as usize),
-        17 => given(0, mode_number(f.mode())),
-        18 => given(0, data_type_number(f.data_type())),
-        19 => given(0, encryption_number(f.encryption_type())),
-        20 => given(0, f.channel_access_number() as usize),
-        21 => put(&f.meta(), room),
-        22 => put_lsf(f.set_mode(mode(v)), room),
-        23 => put_lsf(f.set_data_type(data_type(v)), room),
-        24 => put_lsf(f.set_encryption_type(encryption(v)), room),
-        25 => put_lsf(f.set_channel_access_number(v), room),
-        _ => put_lsf(LsfFrame::packet_basic(), room),
+        16 => f.check_crc() as usize,
+        17 => mode_number(f.mode()),
+        18 => data_type_number(f.data_type()),
+        19 => encryption_number(f.encryption_type()),
+        _ => f.channel_access_number() as usize,
     }
 }
 
-fn put(s: &[u8], room: &mut [u8]) -> Answer {
-    store::copy_in(s, room, 0);
-    given(0, s.len())
+fn lsf_set(kind: u8, v: u8, f: LsfFrame) -> LsfFrame {
+    match kind {
+        22 => f.set_mode(mode(v)),
+        23 => f.set_data_type(data_type(v)),
+        24 => f.set_encryption_type(encryption(v)),
+        25 => f.set_channel_access_number(v),
+        _ => LsfFrame::packet_basic(),
+    }
 }
 
-fn put_lsf(f: LsfFrame, room: &mut [u8]) -> Answer {
+fn put(s: &[u8], room: &mut [u8]) -> usize {
+    store::copy_in(s, room, 0);
+    s.len() % VALUES
+}
+
+fn put_lsf(f: LsfFrame, room: &mut [u8]) -> usize {
     let all = f.0;
     put(&all, room)
 }
@@ -392,50 +404,50 @@ fn encryption(v: u8) -> EncryptionType {
 }
 
 // A new reader, a write, the next frame (into the room), or the reader's record as one number with its store in the room.
-fn read_step(
-    kind: u8,
-    a: &[u8],
-    reader: KissBuffer,
-    lich: LichCollection,
-    room: &mut [u8],
-    store: &mut [u8; 1713],
-) -> Reply {
+fn read_step(kind: u8, a: &[u8], s: Session, room: &mut [u8], store: &mut [u8; 1713]) -> Session {
     match kind {
-        32 => Reply {
-            answer: given(0, 0),
-            reader: KissBuffer::new(),
-            lich: lich,
-        },
-        33 => {
-            let w = reader.write(a, store);
-            let answer = w.answer;
-            let after = w.buffer;
-            Reply {
-                answer: given(write_number(answer), w.count),
-                reader: after,
-                lich: lich,
-            }
-        }
-        34 => {
-            let next = reader.next_frame(store);
-            let answer = next.answer;
-            let after = next.buffer;
-            put(after.frame(store), room);
-            Reply {
-                answer: next_number(answer),
-                reader: after,
-                lich: lich,
-            }
-        }
-        _ => {
-            put(store, room);
-            Reply {
-                answer: given(0, record_number(reader)),
-                reader: reader,
-                lich: lich,
-            }
-        }
+        32 => with_reader(s, KissBuffer::new(), 0),
+        33 => offer(s, a, store),
+        34 => take(s, room, store),
+        _ => show(s, room, store),
     }
+}
+
+fn with_reader(s: Session, reader: KissBuffer, answer: usize) -> Session {
+    let lich = s.lich;
+    Session {
+        reader: reader,
+        lich: lich,
+        answer: answer,
+        going: true,
+    }
+}
+
+fn offer(s: Session, a: &[u8], store: &mut [u8; 1713]) -> Session {
+    let reader = s.reader;
+    let w = reader.write(a, store);
+    let answer = w.answer;
+    let after = w.buffer;
+    with_reader(s, after, write_number(answer, w.count))
+}
+
+fn take(s: Session, room: &mut [u8], store: &mut [u8; 1713]) -> Session {
+    let reader = s.reader;
+    let next = reader.next_frame(store);
+    let answer = next.answer;
+    let after = next.buffer;
+    put_frame(after, store, room);
+    with_reader(s, after, next_number(answer))
+}
+
+fn put_frame(reader: KissBuffer, store: &[u8], room: &mut [u8]) {
+    put(reader.frame(store), room);
+}
+
+fn show(s: Session, room: &mut [u8], store: &[u8]) -> Session {
+    put(store, room);
+    let reader = s.reader;
+    answered(s, record_number(reader))
 }
 
 fn record_number(reader: KissBuffer) -> usize {
@@ -446,87 +458,76 @@ fn record_number(reader: KissBuffer) -> usize {
     twice
 }
 
-fn write_number(answer: WriteAnswer) -> u8 {
+fn write_number(answer: WriteAnswer, count: usize) -> usize {
     match answer {
-        WriteAnswer::Done => 0,
-        WriteAnswer::Full => 5,
-        WriteAnswer::WrongStore => 7,
-        WriteAnswer::OutOfBounds => 8,
+        WriteAnswer::Done => count % VALUES,
+        WriteAnswer::Full => FULL,
+        WriteAnswer::WrongStore => NO_ROOM,
+        WriteAnswer::OutOfBounds => OUT_OF_BOUNDS,
     }
 }
 
 // The length of a frame; 0 where there is none.
-fn next_number(answer: NextAnswer) -> Answer {
+fn next_number(answer: NextAnswer) -> usize {
     match answer {
-        NextAnswer::Frame(n) => given(0, n),
-        NextAnswer::Nothing => given(0, 0),
-        NextAnswer::WrongStore => given(7, 0),
-        NextAnswer::OutOfBounds => given(8, 0),
+        NextAnswer::Frame(n) => n % VALUES,
+        NextAnswer::Nothing => 0,
+        NextAnswer::WrongStore => NO_ROOM,
+        NextAnswer::OutOfBounds => OUT_OF_BOUNDS,
     }
 }
 
 // A new collection, a segment set, how many were heard, or the LSF (into the room, value 30) where all were.
-fn lich_step(
-    kind: u8,
-    a: &[u8],
-    reader: KissBuffer,
-    lich: LichCollection,
-    room: &mut [u8],
-) -> Reply {
+fn lich_step(kind: u8, a: &[u8], s: Session, room: &mut [u8]) -> Session {
     match kind {
-        48 => Reply {
-            answer: given(0, 0),
-            reader: reader,
-            lich: LichCollection::new(),
-        },
-        49 => {
-            let part = [at(a, 1), at(a, 2), at(a, 3), at(a, 4), at(a, 5)];
-            let set = lich.set_segment(at(a, 0), part);
-            let answer = set.answer;
-            let after = set.collection;
-            Reply {
-                answer: given(segment_number(answer), 0),
-                reader: reader,
-                lich: after,
-            }
-        }
-        50 => Reply {
-            answer: heard(lich.valid_segments()),
-            reader: reader,
-            lich: lich,
-        },
-        _ => {
-            let r = lich.try_assemble();
-            let answer = r.answer;
-            let all = r.bytes;
-            Reply {
-                answer: assembled(answer, &all, room),
-                reader: reader,
-                lich: lich,
-            }
-        }
+        48 => with_lich(s, LichCollection::new(), 0),
+        49 => segment(s, a),
+        50 => answered(s, heard(s.lich)),
+        _ => answered(s, assembled(s.lich, room)),
     }
 }
 
-fn segment_number(answer: SegmentAnswer) -> u8 {
+fn with_lich(s: Session, lich: LichCollection, answer: usize) -> Session {
+    let reader = s.reader;
+    Session {
+        reader: reader,
+        lich: lich,
+        answer: answer,
+        going: true,
+    }
+}
+
+fn segment(s: Session, a: &[u8]) -> Session {
+    let lich = s.lich;
+    let part = [at(a, 1), at(a, 2), at(a, 3), at(a, 4), at(a, 5)];
+    let set = lich.set_segment(at(a, 0), part);
+    let answer = set.answer;
+    let after = set.collection;
+    with_lich(s, after, segment_number(answer))
+}
+
+fn segment_number(answer: SegmentAnswer) -> usize {
     match answer {
         SegmentAnswer::Done => 0,
-        SegmentAnswer::IndexOver5 => 6,
-        SegmentAnswer::OutOfBounds => 8,
+        SegmentAnswer::IndexOver5 => OUT_OF_RANGE,
+        SegmentAnswer::OutOfBounds => OUT_OF_BOUNDS,
     }
 }
 
-fn heard(n: ValidSegments) -> Answer {
-    match n {
-        ValidSegments::Count(k) => given(0, k),
-        ValidSegments::OutOfBounds => given(8, 0),
+fn heard(lich: LichCollection) -> usize {
+    match lich.valid_segments() {
+        ValidSegments::Count(k) => k % VALUES,
+        ValidSegments::OutOfBounds => OUT_OF_BOUNDS,
     }
 }
 
-fn assembled(answer: Assembly, all: &[u8], room: &mut [u8]) -> Answer {
+fn assembled(lich: LichCollection, room: &mut [u8]) -> usize {
+    let r = lich.try_assemble();
+    let answer = r.answer;
+    let all = r.bytes;
     match answer {
-        Assembly::Whole => put(all, room),
-        Assembly::Missing => given(0, 0),
-        Assembly::OutOfBounds => given(8, 0),
+        Assembly::Whole => put(&all, room),
+        Assembly::Missing => 0,
+        Assembly::OutOfBounds => OUT_OF_BOUNDS,
     }
 }

@@ -1,6 +1,6 @@
-// What the TNC is doing, with the names of m17core's tnc.rs, and how the clock ends a transmission.
+// What the TNC is doing, with the names of m17core's tnc.rs.
 ghost use mathlib.Core.Path.{_≡_};
-ghost use Rattle.state.specs.State.{transmits, receptionOf, transmissionOf, soundState, timeReached, endingAt};
+ghost use Rattle.state.specs.State.{transmits, receptionOf, transmissionOf, soundState};
 
 // The bytes that go with a reception stand in a store of the caller's: the LSF, or its LICH segments, and the packet.
 pub enum State {
@@ -102,46 +102,6 @@ impl State {
             State::TxPacket => true,
             State::TxEnding => true,
             State::TxEndingAtTime(end) => end <= 4611686022722355200,
-        }
-    }
-
-    // The state once the clock shows now: a transmission whose end has come is over.
-    pub fn at_time(self, now_samples: u64) -> Self
-        ensures { λ r. ⌜ r ≡ timeReached self «now_samples» ⌝ }
-    {
-        match self {
-            State::Idle => self,
-            State::RxAcquiringStream(_) => self,
-            State::RxStream(_) => self,
-            State::RxPacket(_) => self,
-            State::TxStream => self,
-            State::TxStreamSentEndOfStream => self,
-            State::TxPacket => self,
-            State::TxEnding => self,
-            State::TxEndingAtTime(end) => {
-                if end <= now_samples {
-                    State::Idle
-                } else {
-                    self
-                }
-            }
-        }
-    }
-
-    // The state once the modulator has said when it will be done, which counts only where an end was given and no time yet.
-    pub fn ending_at(self, end: u64) -> Self
-        ensures { λ r. ⌜ r ≡ endingAt self end ⌝ }
-    {
-        match self {
-            State::Idle => self,
-            State::RxAcquiringStream(_) => self,
-            State::RxStream(_) => self,
-            State::RxPacket(_) => self,
-            State::TxStream => self,
-            State::TxStreamSentEndOfStream => self,
-            State::TxPacket => self,
-            State::TxEnding => State::TxEndingAtTime(end),
-            State::TxEndingAtTime(_) => self,
         }
     }
 }

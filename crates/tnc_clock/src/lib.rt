@@ -3,6 +3,8 @@ use channel::Channel;
 use channel::ChannelAnswer;
 use radio::Radio;
 use state::State;
+use state_clock::at_time;
+use state_clock::ending_at;
 use tnc_core::Tnc;
 ghost use mathlib.Core.Path.{_≡_};
 ghost use Rattle.tnc_core.specs.Tnc.{withState};
@@ -32,7 +34,7 @@ pub fn set_now(tnc: Tnc, channel: Channel, now_samples: u64) -> Timed
         ChannelAnswer::Done => {
             let radio = tnc.radio;
             let state = radio.state;
-            let reached = state.at_time(now_samples);
+            let reached = at_time(state, now_samples);
             told_time(ChannelAnswer::Done, with_state(tnc, reached), after)
         }
     }
@@ -53,7 +55,7 @@ pub fn set_tx_end_time(tnc: Tnc, channel: Channel, in_samples: u64) -> Timed
     }
     let radio = tnc.radio;
     let state = radio.state;
-    let ending = state.ending_at(channel.clock + in_samples);
+    let ending = ending_at(state, channel.clock + in_samples);
     told_time(ChannelAnswer::Done, with_state(tnc, ending), channel)
 }
 

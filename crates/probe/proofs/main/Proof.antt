@@ -4,10 +4,10 @@ use Rattle.probe.proofs.main.Statement.{statement}
 use Rattle.probe.proofs.main.Tie as tie
 
 abbrev Inv-loop : tie.InvT-loop
-Inv-loop head₀ body₀ out₀ store₀ s₀ turns₀ head body out store s turns = Unit {0}
+Inv-loop head₀ body₀ room₀ store₀ s₀ turns₀ head body room store s turns = Unit {0}
 
 abbrev μ-loop : tie.MeasureT-loop
-μ-loop head₀ body₀ out₀ store₀ s₀ turns₀ head body out store s turns = turns
+μ-loop head₀ body₀ room₀ store₀ s₀ turns₀ head body room store s turns = turns
 
 pub main-spec : {M : Type 1} → statement M
 main-spec =

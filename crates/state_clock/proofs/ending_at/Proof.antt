@@ -1,9 +1,9 @@
--- `state::State::ending_at` meets its contract. Assumes nothing.
+-- `state_clock::ending_at` meets its contract. Assumes nothing.
 use borrow.Author.Needs.{needs}
 use mathlib.Core.Path.{ap, sym}
 use Rattle.state.specs.State.{endingAt}
-use Rattle.state.proofs.State.ending_at.Statement.{statement}
-use Rattle.state.proofs.State.ending_at.Tie as tie
+use Rattle.state_clock.proofs.ending_at.Statement.{statement}
+use Rattle.state_clock.proofs.ending_at.Tie as tie
 
 returns-8 : tie.Need-returns-8
 returns-8 c = ap (λ s. endingAt s (c .before .before .args .end)) (sym (c .enum-told8 .given .1))
