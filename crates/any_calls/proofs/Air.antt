@@ -7,7 +7,7 @@ use mathlib.Core.List.{List}
 use native.Mathlib.Omega.{arith}
 use lib.Dec.{eqb, ltb}
 use lib.ListN.{length}
-use borrow.Author.Tests.{eq-eqb, eqb-true}
+use borrow.Author.Tests.{eq-eqb}
 use Rattle.choice.specs.Pick.{pick, pick-all}
 use Rattle.protocol.specs.Lsf.{fieldOf, modeBits}
 use Rattle.protocol.specs.Kinds.{modeOf}
@@ -17,29 +17,26 @@ use Rattle.protocol.specs.declared.PacketFrameCounter.the-variants.{Frame as Co
 use Rattle.protocol.specs.declared.StreamFrame.{StreamFrame}
 use Rattle.protocol.specs.declared.lsf.Mode.{Mode}
 use Rattle.protocol.specs.declared.lsf.Mode.the-variants.{Packet, Stream}
-use Rattle.kiss_buffer.specs.Calls.{soundBuffer}
 use Rattle.state.specs.declared.Reception.{Reception}
 use Rattle.state.specs.declared.Reception.the-variants.{Nothing, Acquiring as Segments, Stream as InStream, Packet as InPacket}
 use Rattle.state.specs.declared.State.{State}
 use Rattle.state.specs.State.{transmits, receptionOf}
 use Rattle.radio.specs.declared.Radio.{Radio}
 use Rattle.radio.specs.declared.AirAnswer.{AirAnswer}
-use Rattle.radio.specs.declared.AirAnswer.the-variants.{Done, OutOfRange, WrongStore, OutOfBounds}
 use Rattle.radio.specs.declared.Heard.{Heard}
 use Rattle.radio.specs.declared.Hears.{Hears}
 use Rattle.radio.specs.declared.Hears.the-variants.{Frame, Answer}
-use Rattle.radio.specs.Radio.{RX, MESSAGE, soundRadio, answered, unlessSending, airNumber}
+use Rattle.radio.specs.Radio.{RX, MESSAGE, unlessSending, airNumber}
 use Rattle.radio.specs.Box.{Box, leftBy, Sound as RadioSound}
 use Rattle.radio.proofs.Kept as radio
 use Rattle.air_lsf.specs.Begun.{begun, lsfHeard}
 use Rattle.air_collect.specs.Collected.{collectedAfter}
-use Rattle.tnc_air.specs.Heard.{collectedIn, collected, finishedAfter, finishedIn, finished, counted, packetHeard}
+use Rattle.tnc_air.specs.Heard.{collectedIn, finishedAfter, finishedIn, finished, counted, packetHeard}
 use Rattle.stream_acquire.specs.Acquired.{restarted, acquiredWith}
 use Rattle.stream_follow.specs.Followed.{followed}
 use Rattle.tnc_stream.specs.Stream.{acquired, receivedIn, ranged, streamHeard}
-use Rattle.tnc_core.specs.declared.Tnc.{Tnc}
 use Rattle.tnc_core.specs.Tnc.{soundTnc, withRadio}
-use Rattle.tnc_core.proofs.Bounds.{Parts, parts}
+use Rattle.tnc_core.proofs.Bounds.{parts}
 use Rattle.tnc_core.proofs.Kept.{with-radio-is-sound}
 use Rattle.tnc_heard.specs.declared.TncHeard.{TncHeard}
 use Rattle.tnc_heard.specs.Calls.{putHeard, tncHears, heardBy, airHeard}

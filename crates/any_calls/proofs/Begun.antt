@@ -1,10 +1,10 @@
 -- A transmission, and its step from frames to the end, is begun by reads for the modulator alone. Assumes nothing.
 use Prim.Native.Nat.{ℕ, _+_}
 use mathlib.Core.Bool.{Bool, true, false, false≢true}
-use mathlib.Core.Path.{_≡_, refl, sym, ap, _∙_, subst}
+use mathlib.Core.Path.{_≡_, sym, ap, _∙_, subst}
 use mathlib.Core.List.{List}
 use lib.Dec.{leb}
-use Rattle.choice.specs.Pick.{pick, pick-all}
+use Rattle.choice.specs.Pick.{pick-all}
 use Rattle.state.specs.declared.State.{State}
 use Rattle.state.specs.declared.State.the-variants.{Idle, RxAcquiringStream, RxStream, RxPacket, TxStream, TxStreamSentEndOfStream, TxPacket, TxEnding, TxEndingAtTime}
 use Rattle.state.specs.State.{transmits, timeReached, endingAt}

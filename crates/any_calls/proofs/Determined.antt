@@ -1,5 +1,5 @@
 -- The promise of specs/Determined.antt is kept. Assumes nothing.
-use mathlib.Core.Path.{_≡_, sym, _∙_}
+use mathlib.Core.Path.{sym, _∙_}
 use Rattle.any_calls.specs.Calls.{writeKiss, readKiss, handleLsf, handlePacket, handleStream, setDataCarrierDetect, setNow, setTxEndTime, ptt, readTxFrame}
 use Rattle.any_calls.specs.Determined.{Determined}
 

@@ -19,14 +19,14 @@ use Rattle.state.specs.declared.State.the-variants.{Idle, RxAcquiringStream, Rx
 use Rattle.state.specs.State.{transmissionOf}
 use Rattle.tx_frame.specs.declared.TxRead.{TxRead}
 use Rattle.tx_begin.specs.Begin.{keyedUp}
-use Rattle.tx_stream.specs.Stream.{afterStream, streamRead}
+use Rattle.tx_stream.specs.Stream.{streamRead}
 use Rattle.tx_packet.specs.Packet.{afterPacket}
 use Rattle.tnc_modulator.proofs.Outcomes.{Passed, none-waits, held-back, keyed-up, in-stream, stream-over, in-packets, ending, sound-outcome}
 use Rattle.tnc_core.specs.declared.Tnc.{Tnc}
 use Rattle.tnc_transmit.specs.declared.TncTx.{TncTx}
 use Rattle.tnc_transmit.specs.Calls.{putGiven}
 use Rattle.any_calls.specs.Calls.{World, Call, writeKiss, readKiss, handleLsf, handlePacket, handleStream, setDataCarrierDetect, setNow, setTxEndTime, ptt, readTxFrame, gives, after, run}
-use Rattle.any_calls.specs.Promises.{Typed, AllTyped, Sound}
+use Rattle.any_calls.specs.Promises.{AllTyped, Sound}
 use Rattle.any_calls.specs.Queues.{inStreams, readIn, overAll}
 use Rattle.any_calls.specs.QueueRule.{Ends}
 use Rattle.any_calls.proofs.Begun.{Reads, begun-by-reads}

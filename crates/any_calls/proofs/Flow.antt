@@ -21,11 +21,9 @@ use Rattle.packets.specs.declared.PacketQueue.{PacketQueue}
 use Rattle.packets.specs.Queue.{pushedBasic, pushedFull}
 use Rattle.streams.specs.declared.StreamQueue.{StreamQueue}
 use Rattle.streams.specs.Queue.{pushed}
-use Rattle.state.specs.declared.State.{State}
 use Rattle.state.specs.declared.Transmission.{Transmission}
 use Rattle.state.specs.State.{transmissionOf}
 use Rattle.radio.specs.declared.Heard.{Heard}
-use Rattle.radio.specs.declared.AirAnswer.{AirAnswer}
 use Rattle.host_record.specs.declared.Host.{Host}
 use Rattle.host_setting.specs.declared.Setting.{Setting}
 use Rattle.host_setting.specs.declared.Setting.the-variants.{Value, Nothing}
@@ -37,20 +35,15 @@ use Rattle.host_frame.specs.Promises.{Box as HostBox, leftBy, after as afterFra
 use Rattle.host_frame.proofs.Cases.{taken}
 use Rattle.host_frame.proofs.Kept as host
 use Rattle.tnc_drain.specs.Drain.{allTaken, framesHeld}
-use Rattle.tnc_host.specs.Promises.{Link}
-use Rattle.tnc_host.specs.Promises.{afterWrite as afterLink}
 use Rattle.tnc_host.proofs.Kept as hosts
 use Rattle.tnc_core.specs.declared.Tnc.{Tnc}
-use Rattle.tnc_core.specs.Tnc.{withState}
 use Rattle.tnc_clock.specs.Clock.{nowSet, endTimeSet}
 use Rattle.tnc.specs.declared.TncWritten.{TncWritten}
-use Rattle.tnc_read.specs.declared.TncRead.{TncRead}
-use Rattle.tnc_heard.specs.declared.TncHeard.{TncHeard}
 use Rattle.tnc_transmit.specs.declared.TncTx.{TncTx}
 use Rattle.any_calls.specs.Calls.{World, Call, writeKiss, readKiss, handleLsf, handlePacket, handleStream, setDataCarrierDetect, setNow, setTxEndTime, ptt, readTxFrame, writes, reads, hears, lsfIn, packetIn, streamIn, gives, afterWrite, withTnc, afterHeard, withBoth, after, run}
-use Rattle.any_calls.specs.Promises.{Typed, AllTyped, Sound}
+use Rattle.any_calls.specs.Promises.{AllTyped, Sound}
 use Rattle.any_calls.specs.Queues.{ofData, broughtBy, hostOf, framesAfter, brings, readIn, overAll}
-use Rattle.any_calls.proofs.Host.{link, withLink, link-sound, comes-to, write-refused, each-read}
+use Rattle.any_calls.proofs.Host.{link, link-sound, comes-to, write-refused, each-read}
 use Rattle.any_calls.proofs.Air.{each-heard}
 use Rattle.any_calls.proofs.Kept.{now-leaves, end-leaves, sound-stays-sound}
 

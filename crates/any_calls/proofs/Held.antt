@@ -5,7 +5,6 @@ use mathlib.Core.Bool.{Bool, true, false, not, false≢true}
 use mathlib.Core.Path.{_≡_, refl, sym, ap, _∙_, subst}
 use mathlib.Core.Logic.{_≢_}
 use mathlib.Core.List.{List, [], _∷_}
-use lib.ListN.{length}
 use native.Mathlib.Omega.{arith}
 use Rattle.choice.specs.Pick.{pick, pick-all}
 use Rattle.channel.specs.declared.Channel.{Channel}
@@ -13,7 +12,7 @@ use Rattle.packets.specs.declared.PacketQueue.{PacketQueue}
 use Rattle.packets.specs.declared.PacketRead.{PacketRead}
 use Rattle.packets.specs.declared.ReadAnswer.{ReadAnswer}
 use Rattle.packets.specs.declared.ReadAnswer.the-variants.{Nothing as NoPiece, Lsf as PacketLsf, Packet as Piece, End, WrongStore as NoPacketStore, OutOfBounds as NoPacketState}
-use Rattle.packets.specs.Frames.{AirFrame, setup, piece}
+use Rattle.packets.specs.Frames.{setup, piece}
 use Rattle.packets.specs.Queue.{isEmpty, readNext, readNumber, framesIn}
 use Rattle.packet_rule.specs.Promises.{given}
 use Rattle.packet_rule.proofs.Walked.{one-is-some}
@@ -29,12 +28,10 @@ use Rattle.state.specs.declared.State.the-variants.{Idle, RxAcquiringStream, Rx
 use Rattle.host_frame.specs.Promises.{Box as HostBox}
 use Rattle.tx_frame.specs.declared.TxRead.{TxRead}
 use Rattle.tx_begin.specs.Begin.{keyedUp}
-use Rattle.tx_stream.specs.Stream.{afterStream, streamRead}
-use Rattle.tx_packet.specs.Packet.{afterPacket, packetRead}
+use Rattle.tx_stream.specs.Stream.{afterStream}
+use Rattle.tx_packet.specs.Packet.{afterPacket}
 use Rattle.tnc_modulator.proofs.Outcomes.{Passed, none-waits, held-back, keyed-up, in-stream, stream-over, in-packets, ending, sound-outcome}
-use Rattle.tnc_core.specs.declared.Tnc.{Tnc}
 use Rattle.tnc_transmit.specs.declared.TncTx.{TncTx}
-use Rattle.tnc_transmit.specs.Calls.{putGiven}
 use Rattle.any_calls.specs.Calls.{World, Call, writeKiss, readKiss, handleLsf, handlePacket, handleStream, setDataCarrierDetect, setNow, setTxEndTime, ptt, readTxFrame, lsfIn, packetIn, streamIn, after, run}
 use Rattle.any_calls.specs.Promises.{AllTyped, Sound}
 use Rattle.any_calls.proofs.Kept.{tx, tx-sound, sound-stays-sound}

@@ -1,6 +1,6 @@
 -- Calls of the host, over the world. Assumes nothing.
-use Prim.Native.Nat.{ℕ, _≤_}
-use mathlib.Core.Bool.{Bool, true, false}
+use Prim.Native.Nat.{ℕ}
+use mathlib.Core.Bool.{true}
 use mathlib.Core.Path.{_≡_, refl, sym, ap, _∙_, subst}
 use mathlib.Core.List.{List}
 use native.Mathlib.Omega.{arith}
@@ -8,33 +8,23 @@ use lib.Dec.{eqb}
 use lib.ListN.{length}
 use borrow.Author.Tests.{eq-eqb, leb-true}
 use Rattle.choice.specs.Pick.{pick, pick-all, and-fst, and-snd, and-both}
-use Rattle.channel.specs.Access.{soundChannel}
 use Rattle.kiss_buffer.specs.declared.WriteAnswer.{WriteAnswer}
-use Rattle.kiss_buffer.specs.declared.WriteAnswer.the-variants.{Done, Full, WrongStore, OutOfBounds}
-use Rattle.kiss_reader.specs.Reader.{STORE as READER, refused}
-use Rattle.kiss_buffer.specs.Calls.{soundBuffer, written, writeNumber}
-use Rattle.kiss_buffer.specs.Promises.{Box as ReaderBox, afterWritten, Sound as ReaderSound}
-use Rattle.kiss_buffer.proofs.Boxes.{reading, write-answer}
-use Rattle.outgoing.specs.declared.HostAnswer.the-variants.{Done as AllRead}
-use Rattle.outgoing.specs.declared.HostRead.{HostRead}
-use Rattle.outgoing.specs.declared.Outgoing.{Outgoing}
+use Rattle.kiss_buffer.specs.declared.WriteAnswer.the-variants.{WrongStore, OutOfBounds}
+use Rattle.kiss_reader.specs.Reader.{STORE as READER}
+use Rattle.kiss_buffer.specs.Calls.{soundBuffer, writeNumber}
 use Rattle.outgoing.specs.Message.{soundMessage, hostRead, hostNumber}
 use Rattle.outgoing.proofs.Kept as outgoing
 use Rattle.packets.specs.Queue.{STORE as PACKETS}
 use Rattle.streams.specs.Queue.{STORE as STREAMS}
-use Rattle.sending.specs.Sending.{soundSending}
 use Rattle.radio.specs.Radio.{MESSAGE, soundRadio}
 use Rattle.host_record.specs.Host.{soundHost}
-use Rattle.host_frame.specs.Promises.{Sound as HostSound}
-use Rattle.tnc_host.specs.declared.KissWritten.{KissWritten}
 use Rattle.tnc_drain.specs.Drain.{readerBox, hostBox}
-use Rattle.tnc_host.specs.Bytes.{kissWritten}
-use Rattle.tnc_host.specs.Promises.{Link, writtenAt, leftBy, Sound as LinkSound}
+use Rattle.tnc_host.specs.Promises.{Link, writtenAt, Sound as LinkSound}
 use Rattle.tnc_host.specs.Promises.{afterWrite as afterLink}
 use Rattle.tnc_host.proofs.Kept as host
 use Rattle.tnc_core.specs.declared.Tnc.{Tnc}
 use Rattle.tnc_core.specs.Tnc.{soundTnc}
-use Rattle.tnc_core.proofs.Bounds.{Parts, parts, joined}
+use Rattle.tnc_core.proofs.Bounds.{parts, joined}
 use Rattle.tnc_core.proofs.Kept.{with-radio-is-sound}
 use Rattle.tnc.specs.declared.TncWritten.{TncWritten}
 use Rattle.tnc_read.specs.declared.TncRead.{TncRead}

@@ -1,6 +1,6 @@
 -- The promises of specs/Promises.antt are kept. Assumes nothing.
 use Prim.Native.Nat.{ℕ, _+_, _≤_}
-use mathlib.Core.Bool.{Bool, true, false}
+use mathlib.Core.Bool.{Bool, true}
 use mathlib.Core.Path.{_≡_, refl, sym, ap, _∙_, subst}
 use mathlib.Core.List.{List, [], _∷_}
 use native.Mathlib.Omega.{arith}
@@ -15,19 +15,16 @@ use Rattle.channel.specs.declared.ChannelSet.{ChannelSet}
 use Rattle.channel.specs.Access.{LAST, soundChannel, withClock, isSet, clockSet, carrierSet, setNumber}
 use Rattle.channel.proofs.Kept as channel
 use Rattle.kiss_buffer.specs.Calls.{soundBuffer}
-use Rattle.kiss_buffer.specs.Promises.{Sound as ReaderSound}
 use Rattle.kiss_buffer.proofs.Boxes.{new-sound}
 use Rattle.packets.specs.Queue.{STORE as PACKETS}
 use Rattle.streams.specs.Queue.{STORE as STREAMS}
 use Rattle.radio.specs.Radio.{soundRadio, airNumber}
-use Rattle.state.specs.declared.State.{State}
 use Rattle.state.specs.State.{transmits, timeReached, endingAt}
 use Rattle.tnc_air.specs.Promises.{lsf, packet}
 use Rattle.tnc_air.proofs.Kept as air
 use Rattle.tnc_stream.proofs.Kept as stream
 use Rattle.tx_frame.specs.declared.TxAnswer.{TxAnswer}
-use Rattle.tx_frame.specs.declared.TxRead.{TxRead}
-use Rattle.tnc_modulator.specs.Modulator.{allSound, txRead, txNumber}
+use Rattle.tnc_modulator.specs.Modulator.{allSound, txNumber}
 use Rattle.tnc_modulator.specs.Promises.{Box as TxBox, afterRead, readOf, Sound as TxSound}
 use Rattle.tnc_modulator.proofs.Kept as modulator
 use Rattle.tnc_core.specs.declared.Tnc.{Tnc}
@@ -35,14 +32,14 @@ use Rattle.tnc_clock.specs.declared.Timed.{Timed}
 use Rattle.tnc_core.specs.declared.Ptt.{Ptt}
 use Rattle.tnc_core.specs.Tnc.{soundTnc, pttOf, withState, pttNumber}
 use Rattle.tnc_clock.specs.Clock.{FARTHEST, onClock, nowSet, endTimeSet}
-use Rattle.tnc_clock.specs.Promises.{BothSound, Kept}
-use Rattle.tnc_core.proofs.Bounds.{Parts, parts, joined}
+use Rattle.tnc_clock.specs.Promises.{Kept}
+use Rattle.tnc_core.proofs.Bounds.{parts, joined}
 use Rattle.tnc_core.proofs.Kept as core
 use Rattle.tnc_clock.proofs.Kept as clock
 use Rattle.tnc_transmit.specs.declared.TncTx.{TncTx}
 use Rattle.tnc_transmit.specs.Calls.{notGiven, putGiven, tncTx}
-use Rattle.any_calls.specs.Calls.{World, newWorld, Call, writeKiss, readKiss, handleLsf, handlePacket, handleStream, setDataCarrierDetect, setNow, setTxEndTime, ptt, readTxFrame, hears, lsfIn, packetIn, streamIn, gives, withBoth, afterTimed, after, number, run}
-use Rattle.any_calls.specs.Promises.{Sound, NewIsSound, Typed, AllTyped, SoundStaysSound, SoundIsAnswered, AnyCallsStaySound, RefusedKeepsAll}
+use Rattle.any_calls.specs.Calls.{World, Call, writeKiss, readKiss, handleLsf, handlePacket, handleStream, setDataCarrierDetect, setNow, setTxEndTime, ptt, readTxFrame, lsfIn, packetIn, streamIn, gives, withBoth, afterTimed, after, number, run}
+use Rattle.any_calls.specs.Promises.{Sound, NewIsSound, AllTyped, SoundStaysSound, SoundIsAnswered, AnyCallsStaySound, RefusedKeepsAll}
 use Rattle.any_calls.proofs.Host.{write-refused, write-sound, write-fine, read-refused, read-sound, read-fine}
 use Rattle.any_calls.proofs.Air.{box, heard-refused, box-sound, heard-sound, heard-answer, lsf-fine, packet-fine, stream-fine}
 

@@ -6,7 +6,7 @@ use mathlib.Core.List.{List, [], _∷_, _++_, append-nil, append-assoc}
 use lib.Dec.{ltb, eqb}
 use lib.ListN.{length}
 use borrow.Author.Tests.{eq-eqb}
-use Rattle.choice.specs.Pick.{pick, and-fst, and-snd}
+use Rattle.choice.specs.Pick.{pick, and-fst}
 use Rattle.channel.specs.declared.Channel.{Channel}
 use Rattle.kiss_read.specs.declared.KissCommand.the-variants.{DataFrame, TxDelay, P, FullDuplex}
 use Rattle.kiss_read.specs.declared.PortRead.{PortRead}

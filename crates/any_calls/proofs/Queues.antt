@@ -1,14 +1,11 @@
 -- The promises of specs/QueueRule.antt are kept. Assumes nothing.
-use Prim.Native.Nat.{ℕ}
 use mathlib.Core.Bool.{true, false, false≢true}
-use mathlib.Core.Path.{_≡_, refl, sym, ap, _∙_, subst}
+use mathlib.Core.Path.{_≡_, refl, sym, ap, _∙_}
 use mathlib.Core.List.{List, [], _∷_, _++_, append-nil}
 use native.Mathlib.Omega.{arith}
-use lib.Dec.{eqb}
 use lib.ListN.{length, drop}
 use borrow.Author.Tests.{eq-eqb}
 use Rattle.choice.specs.Pick.{pick, and}
-use Rattle.channel.specs.declared.Channel.{Channel}
 use Rattle.channel.specs.Access.{soundChannel}
 use Rattle.channel.proofs.Kept as channel
 use Rattle.protocol.specs.declared.StreamFrame.{StreamFrame}
@@ -24,7 +21,6 @@ use Rattle.packet_rule.specs.Left.{leftOf}
 use Rattle.packet_rule.specs.Promises.{Four, given}
 use Rattle.packet_rule.proofs.Kept.{new-has-none, new-has-four, read-takes, end-is-used-up, something-is-given}
 use Rattle.packet_rule.proofs.Held.{held-is-answered}
-use Rattle.streams.specs.Queue.{newQueue as noStreams}
 use Rattle.streams.specs.Promises.{count, framesFrom, waiting}
 use Rattle.state.specs.declared.State.the-variants.{TxStreamSentEndOfStream, TxPacket}
 use Rattle.state.specs.declared.Transmission.{Transmission}
@@ -32,7 +28,7 @@ use Rattle.state.specs.State.{transmissionOf}
 use Rattle.tx_frame.specs.declared.TxAnswer.the-variants.{EndOfTransmission}
 use Rattle.tx_frame.specs.declared.TxRead.{TxRead}
 use Rattle.tx_packet.specs.Packet.{packetAnswer, packetGiven, packetRead}
-use Rattle.tnc_modulator.specs.Modulator.{PACKETS, STREAMS, allSound, txRead, txNumber}
+use Rattle.tnc_modulator.specs.Modulator.{PACKETS, STREAMS, txRead, txNumber}
 use Rattle.tnc_modulator.specs.Promises.{readOf, Spent, stream-spent, packets-spent}
 use Rattle.tnc_modulator.proofs.Kept as modulator
 use Rattle.tnc_modulator.proofs.Outcomes.{sound-packets}

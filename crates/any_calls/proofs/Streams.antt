@@ -2,7 +2,7 @@
 use Prim.{Unit}
 use Prim.Native.Nat.{ℕ}
 use mathlib.Core.Path.{_≡_, refl, sym, ap, _∙_, subst}
-use mathlib.Core.List.{List, [], _∷_, _++_, append-nil}
+use mathlib.Core.List.{List, [], _++_, append-nil}
 use Rattle.choice.specs.Pick.{and-fst, and-snd}
 use Rattle.channel.specs.declared.Channel.{Channel}
 use Rattle.kiss_read.specs.Read.{portRead, commandRead}
@@ -10,7 +10,6 @@ use Rattle.protocol.specs.declared.StreamFrame.{StreamFrame}
 use Rattle.packets.specs.declared.PacketQueue.{PacketQueue}
 use Rattle.packets.specs.Queue.{readNext as nextPiece}
 use Rattle.streams.specs.declared.StreamQueue.{StreamQueue}
-use Rattle.streams.specs.declared.StreamRead.{StreamRead}
 use Rattle.streams.specs.declared.StreamReadAnswer.{StreamReadAnswer}
 use Rattle.streams.specs.declared.StreamReadAnswer.the-variants.{Nothing as NoFrame, Lsf as StreamLsf, Frame, WrongStore as NoStreamStore, OutOfBounds as NoStreamState}
 use Rattle.streams.specs.Queue.{pushed, readNext}

@@ -1,5 +1,4 @@
 -- Document 01's queue rule, and the same for the stream queue, over any calls from a new TNC. Each is proved in proofs/Queues.antt. Assumes nothing.
-use Prim.Native.Nat.{ℕ}
 use mathlib.Core.Bool.{true}
 use mathlib.Core.Logic.{_≢_}
 use mathlib.Core.Path.{_≡_}

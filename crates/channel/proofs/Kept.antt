@@ -2,7 +2,7 @@
 use Prim.Native.Nat.{ℕ, _+_, _%_, _≤_}
 use mathlib.Core.Bool.{Bool, true, false, false≢true}
 use mathlib.Core.Logic.{_≢_}
-use mathlib.Core.Path.{_≡_, refl, sym, ap, _∙_}
+use mathlib.Core.Path.{_≡_, refl, sym}
 use native.Mathlib.Omega.{arith}
 use lib.Dec.{ltb, leb, eqb}
 use borrow.Author.Tests.{le-leb, leb-true}
@@ -13,8 +13,8 @@ use Rattle.channel.specs.declared.ChannelAnswer.the-variants.{Done, OutO
 use Rattle.channel.specs.declared.AccessAnswer.{AccessAnswer}
 use Rattle.channel.specs.declared.AccessAnswer.the-variants.{Sends, Waits, OutOfBounds as NoAccess}
 use Rattle.channel.specs.declared.Accessed.{Accessed}
-use Rattle.channel.specs.Access.{LAST, SLOT, newChannel, soundChannel, withClock, withCarrier, withDuplex, withCheck, withoutCheck, isSet, clockSet, carrierSet, duplexSet, isAccessed, checkLater, checkDue, accessed, setNumber, accessNumber}
-use Rattle.channel.specs.Promises.{NewIsSound, StaysSound, SoundStaysSound, Kept, RefusedKeepsAll, CarrierHoldsBack, DuplexSends}
+use Rattle.channel.specs.Access.{LAST, SLOT, soundChannel, withClock, withCarrier, withDuplex, withCheck, withoutCheck, isSet, clockSet, carrierSet, duplexSet, isAccessed, checkLater, checkDue, accessed, setNumber, accessNumber}
+use Rattle.channel.specs.Promises.{NewIsSound, SoundStaysSound, RefusedKeepsAll, CarrierHoldsBack, DuplexSends}
 use Rattle.channel.proofs.Bounds.{clock-bound, check-bound}
 
 pub new-is-sound : NewIsSound

@@ -1,10 +1,10 @@
 -- What is promised of channel access over its calls, from document 01. Each is proved in proofs/Kept.antt. Assumes nothing.
-use Prim.Native.Nat.{ℕ, _<_}
+use Prim.Native.Nat.{ℕ}
 use mathlib.Core.Bool.{Bool, true, false}
 use mathlib.Core.Logic.{_≢_}
 use mathlib.Core.Path.{_≡_}
 use Rattle.channel.specs.declared.Channel.{Channel}
-use Rattle.channel.specs.declared.AccessAnswer.the-variants.{Sends, Waits}
+use Rattle.channel.specs.declared.AccessAnswer.the-variants.{Sends}
 use Rattle.channel.specs.Access.{newChannel, soundChannel, clockSet, carrierSet, duplexSet, accessed, setNumber, accessNumber}
 
 -- a new channel is sound, and a sound one stays sound, whatever the call

@@ -8,7 +8,7 @@ use lib.Bits.{bitXor, xor-lt}
 use lib.Dec.{T, eqb, eqb→eq}
 use lib.ListN.{length, getD}
 use Rattle.choice.proofs.Table.{every, at}
-use Rattle.crc.specs.Crc.{shiftBit, shiftByte, crcByte}
+use Rattle.crc.specs.Crc.{shiftByte, crcByte}
 use Rattle.crc.proofs.Linear.{shiftTwice, by-look-up, by-look-ups}
 
 -- entry k is what the steps make of k at the top of the register

@@ -2,13 +2,11 @@
 use Prim.Native.Nat.{ℕ, _+_, _-_, _≤_, _<_}
 use mathlib.Core.Bool.{Bool, true, false}
 use mathlib.Core.Path.{_≡_, refl}
-use mathlib.Core.List.{List}
 use native.Mathlib.Omega.{arith}
 use borrow.Author.Tests.{ltb-true, leb-true}
 use lib.Dec.{ltb, leb}
 use lib.ListN.{length, getD}
 use Rattle.choice.specs.Pick.{pick}
-use Rattle.event_input.specs.declared.Next.{Next}
 use Rattle.event_input.specs.declared.Next.the-variants.{Complete, Cut, Unknown, End}
 use Rattle.event_input.specs.Events.{known, bodyLen, nextAt}
 use Rattle.event_input.specs.Promises.{Whole, CompleteIsWhole}

@@ -1,6 +1,6 @@
 -- Laws of hex and of lines. Assumes nothing.
-use Prim.Native.Nat.{ℕ, zero, suc, _+_, _-_, _*_, _/_, _%_, _<_, _≤_}
-use mathlib.Core.Bool.{Bool, true, false}
+use Prim.Native.Nat.{ℕ, suc, _+_, _-_, _*_, _/_, _%_, _<_, _≤_}
+use mathlib.Core.Bool.{Bool}
 use mathlib.Core.Path.{_≡_, refl, sym, ap, _∙_}
 use mathlib.Core.List.{List, [], _∷_, _++_}
 use native.Mathlib.Numerals.{add-one}
@@ -10,9 +10,7 @@ use lib.Dec.{leb}
 use lib.ListN.{length, getD, set, drop, length-append, drop-of-length-le}
 use lib.Seq.{sets, sets-eq, drop-cons}
 use Rattle.choice.specs.Pick.{pick}
-use Rattle.store.specs.Room.{placed}
 use Rattle.store.proofs.Runs.{sets-append}
-use Rattle.event_line.specs.declared.Line.{Line}
 use Rattle.event_line.specs.declared.Line.the-variants.{Wrote, NumberOver9, NoRoom}
 use Rattle.event_line.specs.Line.{hexDigit, hexOf, flag, tailOf, lineOf, stored, fits, written}
 

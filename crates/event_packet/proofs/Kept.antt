@@ -1,13 +1,12 @@
 -- The promises are kept. Assumes nothing.
-use Prim.Native.Nat.{ℕ, _+_, _-_, _%_, _<_, _≤_}
+use Prim.Native.Nat.{ℕ, _+_, _-_, _%_}
 use native.Mathlib.Omega.{arith}
-use mathlib.Core.Path.{_≡_, refl, sym, ap, _∙_}
+use mathlib.Core.Path.{_≡_, refl, ap, _∙_}
 use mathlib.Core.List.{List, [], _∷_, _++_}
 use borrow.Author.Tests.{lt-ltb, le-ltb}
-use lib.ListN.{length, getD, take, length-append}
+use lib.ListN.{getD, take, length-append}
 use lib.Seq.{take-at, getD-append-add}
 use Rattle.choice.specs.Pick.{pick}
-use Rattle.protocol.specs.declared.PacketFrame.{PacketFrame}
 use Rattle.protocol.specs.declared.PacketFrameCounter.{PacketFrameCounter}
 use Rattle.protocol.specs.declared.PacketFrameCounter.the-variants.{Frame, FinalFrame}
 use Rattle.event_packet.specs.Packet.{counterOf, packetOf, counterByte, packetBody}

@@ -1,13 +1,12 @@
 -- No event prints more than 255 bytes. Assumes nothing.
-use Prim.Native.Nat.{ℕ, zero, suc, _+_, _-_, _*_, _/_, _%_, _≤_, min}
-use mathlib.Core.Bool.{Bool, true, false, not}
-use mathlib.Core.Path.{_≡_, refl}
-use mathlib.Core.List.{List, [], _∷_, _++_}
-use mathlib.Core.Option.{Option, none, some}
+use Prim.Native.Nat.{ℕ, zero, suc, _+_, _-_, _*_, _/_, _%_, _≤_}
+use mathlib.Core.Path.{_≡_}
+use mathlib.Core.List.{List, [], _∷_}
+use mathlib.Core.Option.{Option}
 use native.Mathlib.Omega.{arith}
 use borrow.Author.Tests.{leb-true}
 use lib.ListN.{length, take, drop, getD, replicate, length-take, length-drop, length-append}
-use Rattle.choice.specs.Pick.{pick, pick-all}
+use Rattle.choice.specs.Pick.{pick-all}
 use Rattle.channel.specs.declared.Channel.{Channel}
 use Rattle.channel.specs.declared.AccessAnswer.{AccessAnswer}
 use Rattle.channel.specs.declared.AccessAnswer.the-variants.{Sends, Waits, OutOfBounds as NoAccess}
@@ -21,7 +20,7 @@ use Rattle.protocol.specs.Lsf.{part}
 use Rattle.packets.specs.declared.PacketQueue.{PacketQueue}
 use Rattle.packets.specs.declared.PacketRead.{PacketRead}
 use Rattle.packets.specs.Frames.{chunk, padded, zeros}
-use Rattle.packets.specs.Queue.{noFrame as noPiece, readNext as nextPiece, walk, turn, lsfRead as packetLsf, dataRead, advanced, here, ROOM}
+use Rattle.packets.specs.Queue.{noFrame as noPiece, readNext as nextPiece, walk, turn, lsfRead as packetLsf, dataRead, advanced, ROOM}
 use Rattle.streams.specs.declared.StreamQueue.{StreamQueue}
 use Rattle.streams.specs.declared.StreamRead.{StreamRead}
 use Rattle.streams.specs.Layout.{bytesOf, frameOf, endByte, FRAME}
@@ -34,7 +33,6 @@ use Rattle.sending.specs.declared.Sending.{Sending}
 use Rattle.tx_frame.specs.declared.TxAnswer.{TxAnswer}
 use Rattle.tx_frame.specs.declared.TxAnswer.the-variants.{Nothing, Preamble, Lsf, Stream, Packet, EndOfTransmission, WrongStore, OutOfBounds}
 use Rattle.tx_frame.specs.declared.TxRead.{TxRead}
-use Rattle.tx_frame.specs.Frame.{unfilled}
 use Rattle.tx_begin.specs.Begin.{keyedUp, allowed, begun}
 use Rattle.tx_stream.specs.Stream.{streamGiven}
 use Rattle.tx_packet.specs.Packet.{packetGiven}
@@ -43,7 +41,7 @@ use Rattle.tnc_read.specs.declared.TncRead.{TncRead}
 use Rattle.tnc_transmit.specs.declared.TncTx.{TncTx}
 use Rattle.tnc_read.specs.Calls.{tncRead}
 use Rattle.tnc_transmit.specs.Calls.{tncTx}
-use Rattle.any_calls.specs.Calls.{World, Call, writeKiss, readKiss, handleLsf, handlePacket, handleStream, setDataCarrierDetect, setNow, setTxEndTime, ptt, readTxFrame, gives}
+use Rattle.any_calls.specs.Calls.{World, Call, gives}
 use Rattle.event_packet.specs.Packet.{packetBody, counterByte}
 use Rattle.event_tx.specs.Tx.{frameBytes, laidOut}
 use Rattle.event_step.specs.Step.{Turn, callOf, bytesAfter, made, notMade, perhaps, applied}

@@ -4,9 +4,8 @@ use mathlib.Core.Path.{_≡_, ap, _∙_}
 use mathlib.Core.List.{List}
 use native.Mathlib.Omega.{arith}
 use borrow.Author.Tests.{leb-true}
-use lib.Dec.{leb}
 use lib.ListN.{length, take}
-use Rattle.choice.specs.Pick.{pick, pick-all}
+use Rattle.choice.specs.Pick.{pick-all}
 use Rattle.any_calls.specs.Calls.{World}
 use Rattle.event_line.specs.declared.Line.{Line}
 use Rattle.event_line.specs.Line.{written}

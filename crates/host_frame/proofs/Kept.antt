@@ -1,6 +1,6 @@
 -- The promises of specs/Promises.antt are kept. Assumes nothing.
 use Prim
-use Prim.Native.Nat.{ℕ, _≤_, _<_}
+use Prim.Native.Nat.{ℕ, _≤_}
 use mathlib.Core.Bool.{Bool, true, false, not}
 use mathlib.Core.Path.{_≡_, refl, sym, ap, _∙_, subst}
 use mathlib.Core.List.{List, [], _∷_}
@@ -15,9 +15,9 @@ use Rattle.kiss_read.specs.declared.PortRead.the-variants.{Port, MalformedKissF
 use Rattle.kiss_read.specs.declared.CommandRead.{CommandRead}
 use Rattle.kiss_read.specs.declared.CommandRead.the-variants.{Command, MalformedKissFrame as NoCommand, UnsupportedKissCommand as NoSuch}
 use Rattle.kiss_read.specs.declared.Decoded.{Decoded}
-use Rattle.kiss_read.specs.Read.{portRead, commandRead, decoded}
+use Rattle.kiss_read.specs.Read.{portRead, commandRead}
 use Rattle.kiss_build.specs.Build.{Building, txDelay, fullDuplex, frameOf, refusal, contentOf, portOf, commandOf}
-use Rattle.kiss_build.specs.Promises.{Accepted, ReadsAs}
+use Rattle.kiss_build.specs.Promises.{Accepted}
 use Rattle.kiss_build.proofs.Kept.{built-reads-back}
 use Rattle.channel.specs.Access.{withDuplex, soundChannel, duplexSet}
 use Rattle.channel.proofs.Kept as channels
@@ -27,7 +27,7 @@ use Rattle.streams.specs.Queue.{STORE as STREAMS}
 use Rattle.streams.proofs.Kept as streams
 use Rattle.sending.specs.Sending.{soundSending}
 use Rattle.host_record.specs.declared.Host.{Host}
-use Rattle.host_record.specs.Host.{newHost, soundHost}
+use Rattle.host_record.specs.Host.{soundHost}
 use Rattle.host_setting.specs.declared.Setting.{Setting}
 use Rattle.host_setting.specs.declared.Setting.the-variants.{Value, Nothing}
 use Rattle.host_setting.specs.Setting.{withDelay, withChannel, settingFrom, settingIn, delaySet, duplexOf}

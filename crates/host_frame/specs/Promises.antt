@@ -16,7 +16,7 @@ use Rattle.host_record.specs.Host.{newHost, soundHost}
 use Rattle.host_setting.specs.Setting.{withDelay, withChannel}
 use Rattle.host_frame.specs.declared.FrameAnswer.the-variants.{Done}
 use Rattle.host_frame.specs.declared.FrameTaken.{FrameTaken}
-use Rattle.host_frame.specs.Frame.{answered, frameTaken, frameNumber}
+use Rattle.host_frame.specs.Frame.{frameTaken, frameNumber}
 
 -- a record and its two stores, as the last call left them
 pub record Box : Type 0 where

@@ -1,7 +1,7 @@
 -- What it says that both stores fit, and what two tests of their lengths come to. Assumes nothing.
 use Prim.Native.Nat.{ℕ}
 use mathlib.Core.Bool.{Bool, true, false, false≢true}
-use mathlib.Core.Path.{_≡_, refl, sym}
+use mathlib.Core.Path.{_≡_, sym}
 use lib.Dec.{eqb}
 use borrow.Author.Tests.{eqb-true}
 use Rattle.choice.specs.Pick.{pick, and, and-fst, and-snd}

@@ -5,7 +5,6 @@ use mathlib.Core.List.{List}
 use lib.ListN.{replicate}
 use Rattle.kiss_read.specs.declared.Decoded.{Decoded}
 use Rattle.kiss_read.specs.Read.{decoded}
-use Rattle.host_setting.specs.declared.Setting.{Setting}
 use Rattle.host_setting.specs.Setting.{settingFrom, settingIn}
 
 pub setting-as : (frame room : List ℕ) {k : Decoded} (v : Decoded) → (k, room) ≡ decoded frame (replicate 1 0) → k ≡ v → settingFrom v room ≡ settingIn frame

@@ -1,28 +1,25 @@
 -- What the definitions of the reader's calls come to, case by case, as the code meets the cases. Assumes nothing.
 use mathlib.Core.Path.{_≡_, refl, sym, ap, ap₂, _∙_}
-use mathlib.Core.Bool.{Bool, true, false, not, false≢true}
+use mathlib.Core.Bool.{Bool, true, false}
 use mathlib.Core.Logic.{_⊎_, ⊎-elim}
 use mathlib.Core.Option.{Option, none, some, Option·map}
 use mathlib.Core.List.{List, [], _∷_, _++_}
 use Prim.Native.Nat.{ℕ, _+_, _-_, _≤_, _<_, min}
 use native.Mathlib.Omega.{arith}
 use mir.Val.{boolByte}
-use lib.Dec.{leb, eqb}
 use lib.ListN.{length, take, drop, getD, length-append, length-drop, length-take, take-append-drop}
 use lib.Seq.{take-at, take-take, take-all, drop-append-add, drop-drop}
 use borrow.Author.Tests.{eq-eqb, ne-eqb, le-leb, lt-leb, leb-true, eqb-true}
 use Rattle.choice.specs.Pick.{pick, and, and-fst, and-snd}
 use Rattle.store.specs.Room.{over}
 use Rattle.kiss_escape.specs.Escape.{FEND}
-use Rattle.kiss_read.specs.Scan.{isFend, notFend, stretch}
+use Rattle.kiss_read.specs.Scan.{stretch}
 use Rattle.kiss_buffer.specs.declared.KissBuffer.{KissBuffer}
 use Rattle.kiss_buffer.specs.declared.WriteAnswer.the-variants.{Done, Full, WrongStore, OutOfBounds}
-use Rattle.kiss_buffer.specs.declared.Written.{Written}
 use Rattle.kiss_buffer.specs.declared.NextAnswer.the-variants.{Frame, Nothing, WrongStore as NoStore, OutOfBounds as NoState}
-use Rattle.kiss_buffer.specs.declared.NextFrame.{NextFrame}
 use Rattle.kiss_reader.specs.Meaning.{enclosed}
 use Rattle.kiss_reader.specs.Reader.{Reader, STORE, settle, flush, front, isSome, next, afterNext, isFull, refused, keptBack, takes, afterWrite}
-use Rattle.kiss_buffer.specs.Calls.{readerOf, bufferOf, soundBuffer, notWritten, writes, written, nextAnswer, notSought, found, nextFrame, frameIn}
+use Rattle.kiss_buffer.specs.Calls.{readerOf, soundBuffer, notWritten, writes, written, nextAnswer, notSought, found, nextFrame, frameIn}
 use Rattle.kiss_scan.specs.Front.{standsFirst, orEmpty}
 use Rattle.kiss_buffer.specs.Inside.{compacted, accepted}
 use Rattle.kiss_reader.specs.Inside.{settleAt}

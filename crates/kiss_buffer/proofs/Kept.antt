@@ -7,7 +7,7 @@ use mathlib.Core.Path.{_≡_, refl, ap, _∙_}
 use mathlib.Core.List.{List}
 use lib.Dec.{eqb}
 use lib.ListN.{length}
-use Rattle.choice.specs.Pick.{pick, and}
+use Rattle.choice.specs.Pick.{pick}
 use Rattle.kiss_build.specs.Build.{Building}
 use Rattle.kiss_build.proofs.Kept.{built-reads-back}
 use Rattle.kiss_buffer.specs.declared.WriteAnswer.the-variants.{Done, Full, WrongStore, OutOfBounds}

@@ -1,6 +1,6 @@
 -- What is promised of the reader over any run of its calls, and demand 3, from document 01. Each is proved in proofs/Kept.antt. Assumes nothing.
 use Prim.Native.Nat.{ℕ, _≤_}
-use mathlib.Core.Bool.{Bool, true, false}
+use mathlib.Core.Bool.{true}
 use mathlib.Core.Logic.{_≢_}
 use mathlib.Core.Path.{_≡_}
 use mathlib.Core.List.{List, [], _∷_, _++_, map}

@@ -9,15 +9,13 @@ use native.Mathlib.Omega.{arith}
 use lib.Dec.{ltb, eqb}
 use lib.ListN.{length, length-append}
 use borrow.Author.Tests.{ltb-false, eqb-true}
-use Rattle.choice.specs.Pick.{pick, and}
+use Rattle.choice.specs.Pick.{pick}
 use Rattle.store.specs.Room.{fits, over}
 use Rattle.kiss_read.specs.declared.KissCommand.{KissCommand}
-use Rattle.kiss_read.specs.declared.KissCommand.the-variants.{DataFrame, TxDelay, P, FullDuplex}
 use Rattle.kiss_build.specs.declared.Built.{Built}
 use Rattle.kiss_build.specs.declared.Built.the-variants.{Frame, PayloadTooBig, LsfWrongSize, OutOfRange, NoRoom}
 use Rattle.kiss_read.specs.declared.PortRead.the-variants.{Port}
-use Rattle.kiss_read.specs.declared.CommandRead.the-variants.{Command}
-use Rattle.kiss_escape.specs.Escape.{FEND, esc}
+use Rattle.kiss_escape.specs.Escape.{FEND}
 use Rattle.kiss_build.specs.Frame.{headerOf, frame, putFrame, builtNumber}
 use Rattle.kiss_build.specs.Build.{Building, basicPacket, fullPacket, streamSetup, streamData, txDelay, persistence, fullDuplex, portOf, commandOf, contentOf, refusal, frameOf, unless, built}
 use Rattle.kiss_read.specs.Read.{commandNumber, portAt, portRead, commandFor, commandAt, commandRead}

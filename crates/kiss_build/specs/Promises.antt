@@ -1,6 +1,5 @@
 -- What is promised of the builders and of what is read from their frames, from the KISS paper and document 01. Each is proved in proofs/Kept.antt. Assumes nothing.
 use Prim.Native.Nat.{ℕ, _≤_}
-use mathlib.Core.Bool.{true}
 use mathlib.Core.Logic.{_≢_}
 use mathlib.Core.Path.{_≡_}
 use mathlib.Core.Option.{none}

@@ -1,12 +1,11 @@
 -- The promises of specs/Promises.antt are kept. Assumes nothing.
-use Prim.Native.Nat.{ℕ, zero, suc, _<_, suc-le-suc}
+use Prim.Native.Nat.{ℕ, zero, suc, _<_}
 use native.Mathlib.Nat.{le-of-suc-le-suc, not-suc-le-zero}
 use native.Mathlib.Omega.{arith}
 use mathlib.Core.Logic.{_≢_}
-use mathlib.Core.Path.{_≡_}
 use mathlib.Core.List.{List, [], _∷_, _++_}
 use lib.ListN.{length, getD}
-use Rattle.kiss_escape.specs.Escape.{FEND, FESC, TFEND, TFESC, escByte, esc, escaped}
+use Rattle.kiss_escape.specs.Escape.{FEND, FESC, TFEND, TFESC, escByte, esc}
 use Rattle.kiss_escape.specs.Promises.{EscapeRoundTrip, EscapedHasNoFend, EscapedAtMostTwice, UnescapeStaysInRoom}
 use Rattle.kiss_escape.proofs.Bytes.{Kind, fend, fesc, other, kind}
 use Rattle.kiss_escape.proofs.Escapes.{escByte-fend, escByte-fesc, escByte-other, esc-length}

@@ -6,8 +6,8 @@ use native.Mathlib.Nat.{le-of-suc-le-suc, not-suc-le-zero}
 use native.Mathlib.Omega.{arith}
 use lib.ListN.{length, length-map}
 use Rattle.store.specs.Room.{over}
-use Rattle.kiss_escape.specs.Escape.{FEND, FESC, TFEND, TFESC, escByte, esc}
-use Rattle.kiss_escape.specs.Unescape.{Code, byte, as-found, afterFesc, codes, laid, lay, unescaped}
+use Rattle.kiss_escape.specs.Escape.{FESC, TFEND, TFESC, escByte, esc}
+use Rattle.kiss_escape.specs.Unescape.{Code, byte, afterFesc, codes, lay, unescaped}
 use Rattle.choice.specs.Pick.{pick}
 use Rattle.kiss_escape.proofs.Bytes.{Kind, fend, fesc, other, kind}
 use Rattle.kiss_escape.proofs.Escapes.{escByte-fend, escByte-fesc, escByte-other}

@@ -1,6 +1,6 @@
 -- Where FENDs stand in a run of bytes, from document 01's "Split the input at each FEND" and "the first byte that is not FEND". Assumes nothing.
 use Prim.Native.Nat.{ℕ, suc}
-use mathlib.Core.Bool.{Bool, true, not}
+use mathlib.Core.Bool.{Bool, not}
 use mathlib.Core.Option.{Option, none, some, Option·map}
 use mathlib.Core.List.{List, [], _∷_}
 use lib.Dec.{eqb}

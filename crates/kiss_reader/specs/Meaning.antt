@@ -1,6 +1,5 @@
 -- The reader's meaning, from document 01 under "The reader's meaning": the frames that an input of bytes holds. Assumes nothing.
 use Prim.Native.Nat.{ℕ}
-use mathlib.Core.Bool.{Bool}
 use mathlib.Core.Option.{Option, none, some}
 use mathlib.Core.List.{List, [], _∷_, _++_}
 use lib.Dec.{leb}

@@ -2,7 +2,7 @@
 -- data 16, CRC 2 over number and data. Assumes nothing.
 use Prim.Native.Nat.{ℕ, _+_, _*_, _/_, _%_}
 use mathlib.Core.Bool.{Bool, true, false}
-use mathlib.Core.List.{List, [], _∷_, _++_}
+use mathlib.Core.List.{List, _∷_, _++_}
 use lib.Dec.{leb, ltb}
 use lib.ListN.{take, drop, getD, replicate}
 use Rattle.choice.specs.Pick.{pick}

@@ -3,14 +3,13 @@ use Prim.Native.Nat.{ℕ, _+_, _-_, _≤_}
 use mathlib.Core.Bool.{Bool, true, false}
 use mathlib.Core.Logic.{_≢_}
 use mathlib.Core.Path.{_≡_, refl, sym, ap, _∙_}
-use mathlib.Core.List.{List, [], _++_, append-nil}
+use mathlib.Core.List.{List, _++_}
 use native.Mathlib.Omega.{arith}
 use lib.Dec.{eqb}
-use lib.ListN.{length, take, drop, length-take, length-drop, take-append-drop}
+use lib.ListN.{length, take, drop, length-drop}
 use lib.Seq.{take-at, take-add, drop-drop, length-take-le}
 use borrow.Author.Tests.{le-leb, eq-eqb, eqb-true}
 use Rattle.choice.specs.Pick.{pick, pick-all, and, and-both}
-use Rattle.store.specs.Room.{over}
 use Rattle.outgoing.specs.declared.Outgoing.{Outgoing}
 use Rattle.outgoing.specs.declared.HostRead.{HostRead}
 use Rattle.outgoing.specs.declared.HostAnswer.the-variants.{Done, WrongStore, OutOfBounds}

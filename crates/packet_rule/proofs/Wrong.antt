@@ -1,21 +1,18 @@
 -- The rule of specs/Wrong.antt is kept, and the wrong reads break it: each at a small queue. Assumes nothing.
-use Prim.Native.Nat.{ℕ, _+_}
-use mathlib.Core.Bool.{Bool, true, false, false≢true}
+use mathlib.Core.Bool.{true, false, false≢true}
 use mathlib.Core.Path.{_≡_, refl, sym, ap, _∙_}
-use mathlib.Core.List.{List, [], _∷_, _++_}
+use mathlib.Core.List.{List, [], _∷_}
 use native.Mathlib.Omega.{arith}
 use lib.ListN.{length, replicate}
 use Rattle.choice.specs.Pick.{pick, and}
 use Rattle.choice.specs.Cases.{allPass}
-use Rattle.packets.specs.declared.Place.{Place}
 use Rattle.packets.specs.declared.PacketQueue.{PacketQueue}
-use Rattle.packets.specs.declared.PacketRead.{PacketRead}
 use Rattle.packets.specs.Frames.{AirFrame, zeros, padded, chunk, chunks, dataFrames}
 use Rattle.packets.specs.Queue.{soundPlace, soundQueue, isEmpty, withPlace, advanced, lsfRead, dataRead, turn, walk, readNext}
 use Rattle.packets.specs.Promises.{Sound}
 use Rattle.packets.proofs.Kept as packets
 use Rattle.packet_rule.specs.Left.{leftOf, waiting, inTurn, restAt, lsfLeft, dataLeft}
-use Rattle.packet_rule.specs.Promises.{given, oneWaits, oneStore}
+use Rattle.packet_rule.specs.Promises.{oneWaits, oneStore}
 use Rattle.packet_rule.specs.Wrong.{Rule, RuleIsKept, onlyEnds, repeats, freesAtOnce, clearsWhenEmpty, fourAreNone, WrongReadsBreakIt}
 use Rattle.packet_rule.proofs.Kept.{read-takes, end-is-used-up, something-is-given, one-is-left}
 use Rattle.packet_rule.proofs.Held.{frame-keeps-its-place}

@@ -1,7 +1,7 @@
 -- The queue rule as a demand on any read of the packet queue, and five wrong reads that break it: those of document 01's "What the contracts have to say" and of its list
 -- of what is easy to get wrong. That ours keeps it and that each of the five breaks it is proved in proofs/Wrong.antt. Assumes nothing.
 use Prim.Native.Nat.{ℕ}
-use mathlib.Core.Bool.{true, false}
+use mathlib.Core.Bool.{false}
 use mathlib.Core.Logic.{_≢_}
 use mathlib.Core.Path.{_≡_}
 use mathlib.Core.List.{List, [], _++_}

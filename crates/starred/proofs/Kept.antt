@@ -1,5 +1,5 @@
 -- Document 01's starred examples hold, by one computed test. Assumes nothing.
-use mathlib.Core.Path.{_≡_, refl}
+use mathlib.Core.Path.{refl}
 use Rattle.choice.specs.Pick.{pick, and}
 use Rattle.choice.specs.Cases.{allPass, same}
 use Rattle.kiss_escape.specs.Escape.{escByte, esc, escaped}

@@ -1,5 +1,5 @@
 -- The promises of specs/Promises.antt are kept. Assumes nothing.
-use Prim.Native.Nat.{ℕ, _≤_}
+use Prim.Native.Nat.{ℕ}
 use mathlib.Core.Bool.{Bool, true, false, false≢true}
 use mathlib.Core.Path.{_≡_, refl, sym}
 use lib.Dec.{leb}
@@ -7,7 +7,7 @@ use borrow.Author.Tests.{le-leb, leb-true}
 use Rattle.choice.specs.Pick.{pick, pick-all}
 use Rattle.state.specs.declared.State.{State}
 use Rattle.state.specs.declared.State.the-variants.{Idle, RxAcquiringStream, RxStream, RxPacket, TxStream, TxStreamSentEndOfStream, TxPacket, TxEnding, TxEndingAtTime}
-use Rattle.state.specs.State.{LASTEND, transmits, soundState, timeReached, endingAt}
+use Rattle.state.specs.State.{LASTEND, transmits, soundState}
 use Rattle.state.specs.Promises.{SoundAtTime, SoundEndingAt, Over, PttUntilTheEnd, EndTimeKeepsPtt, FirstEndCounts}
 
 pub sound-at-time : SoundAtTime

@@ -8,7 +8,7 @@ use lib.ListN.{length, take, drop}
 use lib.Seq.{sets, sets-eq}
 use borrow.Author.Tests.{le-leb, lt-leb}
 use Rattle.choice.specs.Pick.{pick, and}
-use Rattle.store.specs.Room.{over, placed, copied, shifted}
+use Rattle.store.specs.Room.{over, copied, shifted}
 use Rattle.store.specs.declared.Copied.{Copied}
 use Rattle.store.specs.declared.Copied.the-variants.{Done, NoRoom}
 

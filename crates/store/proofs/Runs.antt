@@ -5,7 +5,7 @@ use Prim.Native.Nat.{ℕ, suc, _+_, _≤_}
 use native.Mathlib.Nat.{add-zero, add-suc, suc-add}
 use native.Mathlib.Numerals.{add-one}
 use native.Mathlib.Omega.{arith}
-use lib.ListN.{length, set, drop, drop-of-length-le}
+use lib.ListN.{length, set, drop-of-length-le}
 use lib.Seq.{sets, sets-eq}
 use Rattle.store.specs.Room.{over}
 

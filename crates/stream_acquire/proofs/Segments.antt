@@ -19,7 +19,7 @@ use Rattle.lich.specs.declared.LichCollection.{LichCollection}
 use Rattle.lich.specs.declared.SegmentSet.{SegmentSet}
 use Rattle.lich.specs.declared.Assembled.{Assembled}
 use Rattle.lich.specs.declared.Assembly.{Assembly}
-use Rattle.lich.specs.declared.Assembly.the-variants.{Whole, Missing, OutOfBounds}
+use Rattle.lich.specs.declared.Assembly.the-variants.{Whole, Missing}
 use Rattle.lich.specs.Lich.{heardCount, newCollection, withSegment, segmentSet, assembled}
 use Rattle.lich.proofs.Masks.{stays-small}
 use Rattle.kiss_build.specs.declared.Built.{Built}

@@ -1,9 +1,9 @@
 -- Frames are taken until none is left: what one call of the reader's `next_frame` says of the frames that it holds. Assumes nothing.
-use Prim.Native.Nat.{ℕ, _≤_, _<_}
-use mathlib.Core.Bool.{Bool, true, false, false≢true}
+use Prim.Native.Nat.{ℕ, _<_}
+use mathlib.Core.Bool.{true, false, false≢true}
 use mathlib.Core.Path.{_≡_, refl, sym, ap, _∙_, subst}
 use mathlib.Core.Option.{Option, none, some}
-use mathlib.Core.List.{List, [], _∷_, _++_, append-nil}
+use mathlib.Core.List.{List, [], _∷_, append-nil}
 use lib.ListN.{length}
 use Rattle.kiss_reader.specs.Meaning.{framesOf}
 use Rattle.kiss_reader.specs.Reader.{Reader, flush, isSome, next, afterNext}

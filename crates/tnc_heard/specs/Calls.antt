@@ -4,7 +4,7 @@ use Prim.Native.Nat.{ℕ}
 use mathlib.Core.List.{List}
 use lib.Dec.{eqb}
 use lib.ListN.{length}
-use Rattle.choice.specs.Pick.{pick, and}
+use Rattle.choice.specs.Pick.{pick}
 use Rattle.radio.specs.declared.AirAnswer.{AirAnswer}
 use Rattle.radio.specs.declared.AirAnswer.the-variants.{WrongStore as NoAirStore, OutOfBounds as NoAirState}
 use Rattle.radio.specs.declared.Heard.{Heard}

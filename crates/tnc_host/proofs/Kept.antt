@@ -1,23 +1,23 @@
 -- The promises of specs/Promises.antt are kept. Assumes nothing.
 use Prim.Native.Nat.{ℕ, _≤_}
-use mathlib.Core.Bool.{Bool, true, false, false≢true}
+use mathlib.Core.Bool.{true, false, false≢true}
 use mathlib.Core.Path.{_≡_, refl, sym, ap, _∙_, subst}
 use mathlib.Core.List.{List, [], _∷_, _++_, append-nil}
 use native.Mathlib.Omega.{arith}
 use lib.Dec.{eqb}
 use borrow.Author.Tests.{eqb-false}
 use lib.ListN.{length, take, drop}
-use Rattle.choice.specs.Pick.{pick, pick-all}
+use Rattle.choice.specs.Pick.{pick-all}
 use Rattle.kiss_buffer.specs.declared.WriteAnswer.{WriteAnswer}
 use Rattle.kiss_buffer.specs.declared.WriteAnswer.the-variants.{Done, Full, WrongStore, OutOfBounds}
 use Rattle.kiss_buffer.specs.declared.Written.{Written}
 use Rattle.kiss_reader.specs.Meaning.{framesOf}
-use Rattle.kiss_reader.specs.Reader.{STORE as READER, flush, refused as refusedBy}
-use Rattle.kiss_buffer.specs.Calls.{soundBuffer, writes, written, writeNumber, readerOf}
-use Rattle.kiss_buffer.specs.Promises.{Box as ReaderBox, afterWritten, afterNextFrame, Drain, none-left, handed-out, Run, over as all-read, write as one-read, Sound as ReaderSound}
+use Rattle.kiss_reader.specs.Reader.{STORE as READER, refused as refusedBy}
+use Rattle.kiss_buffer.specs.Calls.{soundBuffer, writes, written, writeNumber}
+use Rattle.kiss_buffer.specs.Promises.{Box as ReaderBox, afterWritten, Drain, Run, over as all-read, write as one-read, Sound as ReaderSound}
 use Rattle.kiss_buffer.proofs.Kept as reader
 use Rattle.kiss_reader.proofs.Steps.{Still, still-flush, still-ends}
-use Rattle.kiss_buffer.proofs.Boxes.{reading, new-sound, done-says, write-sound, next-answer, none-answered, some-answered}
+use Rattle.kiss_buffer.proofs.Boxes.{reading, new-sound, write-sound}
 use Rattle.kiss_buffer.proofs.Runs.{drain-exists, drain-still, run-frames}
 use Rattle.packets.specs.Queue.{STORE as PACKETS}
 use Rattle.streams.specs.Queue.{STORE as STREAMS}
@@ -25,9 +25,9 @@ use Rattle.host_record.specs.Host.{soundHost}
 use Rattle.host_frame.specs.Promises.{Box as HostBox, after, Sound as HostSound}
 use Rattle.host_frame.proofs.Kept as host
 use Rattle.tnc_host.specs.declared.KissWritten.{KissWritten}
-use Rattle.tnc_drain.specs.Drain.{readerBox, hostBox, framesHeld, passed, allTaken, drained}
+use Rattle.tnc_drain.specs.Drain.{framesHeld, allTaken, drained}
 use Rattle.tnc_host.specs.Bytes.{refused, onward, offered, kissWritten}
-use Rattle.tnc_host.specs.Promises.{Link, writtenAt, leftBy, afterWrite, Sound, RefusedKeepsAll, SoundStaysSound, NoneLeft, WrittenLeavesNone, NeverStuck, newLink, Writes, over, write, WritesObeyTheFrames}
+use Rattle.tnc_host.specs.Promises.{Link, writtenAt, leftBy, afterWrite, Sound, RefusedKeepsAll, SoundStaysSound, NoneLeft, WrittenLeavesNone, NeverStuck, Writes, over, write, WritesObeyTheFrames}
 use Rattle.tnc_drain.proofs.Drains.{drained-by}
 use Rattle.tnc_host.proofs.Cases.{went}
 

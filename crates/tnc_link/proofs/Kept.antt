@@ -1,5 +1,4 @@
 -- The promise of specs/Promises.antt is kept. Assumes nothing.
-use Prim.Native.Nat.{ℕ, _≤_, _%_}
 use mathlib.Core.Bool.{true}
 use mathlib.Core.Path.{_≡_, refl, ap}
 use native.Mathlib.Omega.{arith}
@@ -7,7 +6,6 @@ use borrow.Author.Tests.{le-leb}
 use Rattle.choice.specs.Pick.{pick, and}
 use Rattle.state.specs.declared.State.{State}
 use Rattle.state.specs.declared.State.the-variants.{RxAcquiringStream, RxStream}
-use Rattle.event_answer.specs.declared.EventBox.{EventBox}
 use Rattle.saved_state.specs.Numbers.{stateKind, stateValue, validState, stateOf}
 use Rattle.tnc_link.specs.Promises.{Typed, idle, acquiring, stream, packet, tx-stream, tx-sent, tx-packet, tx-ending, tx-ending-at, SavedIsRestored}
 

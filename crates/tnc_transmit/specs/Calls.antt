@@ -4,7 +4,7 @@ use Prim.Native.Nat.{ℕ}
 use mathlib.Core.List.{List}
 use lib.Dec.{eqb}
 use lib.ListN.{length}
-use Rattle.choice.specs.Pick.{pick, and}
+use Rattle.choice.specs.Pick.{pick}
 use Rattle.channel.specs.declared.Channel.{Channel}
 use Rattle.packets.specs.Queue.{STORE as PACKETS, noFrame as noPiece}
 use Rattle.streams.specs.Queue.{STORE as STREAMS, noLsf, noFrame}

@@ -1,7 +1,6 @@
 -- `channel_access::check_due` meets its contract. Assumes nothing.
 use borrow.Author.Needs.{needs}
 use Rattle.choice.specs.Pick.{tests}
-use mathlib.Core.Path.{_∙_}
 use Rattle.channel.specs.Access.{checkDue}
 use Rattle.channel_access.proofs.check_due.Statement.{statement}
 use Rattle.channel_access.proofs.check_due.Tie as tie

@@ -1,5 +1,4 @@
 -- `event_input::next_event` meets its contract. Assumes nothing.
-use native.Mathlib.Omega.{arith}
 use borrow.Author.Needs.{needs}
 use Rattle.event_input.specs.Events.{nextAt}
 use Rattle.event_input.proofs.Known.{kinds}

@@ -1,5 +1,5 @@
 -- `event_line::hex_digit` meets its contract. Assumes nothing.
-use Rattle.choice.specs.Pick.{pick, tests}
+use Rattle.choice.specs.Pick.{tests}
 use Rattle.event_line.specs.Line.{hexDigit}
 use borrow.Author.Needs.{needs}
 use Rattle.event_line.proofs.hex_digit.Statement.{statement}

@@ -1,7 +1,7 @@
 -- `event_line::put_line` meets its contract. Assumes nothing.
-use Prim.Native.Nat.{ℕ, _+_, _-_, _≤_, _<_}
-use mathlib.Core.Bool.{Bool, true, false}
-use mathlib.Core.Path.{_≡_, sym, ap, _∙_}
+use Prim.Native.Nat.{ℕ, _+_, _-_, _≤_}
+use mathlib.Core.Bool.{true, false}
+use mathlib.Core.Path.{_≡_, ap, _∙_}
 use mathlib.Core.List.{List}
 use native.Mathlib.Omega.{arith}
 use borrow.Author.Needs.{needs}
@@ -9,7 +9,6 @@ use borrow.Author.Tests.{leb-true, leb-false}
 use lib.Dec.{leb}
 use lib.ListN.{length}
 use Rattle.choice.specs.Pick.{not-yes, not-no}
-use Rattle.event_line.specs.declared.Line.{Line}
 use Rattle.event_line.specs.declared.Line.the-variants.{Wrote}
 use Rattle.event_line.specs.Line.{lineOf}
 use Rattle.event_line.proofs.Lines.{fits-line, line-least, written-over, written-no, written-yes}

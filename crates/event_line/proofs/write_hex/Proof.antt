@@ -1,12 +1,12 @@
 -- `event_line::write_hex` meets its contract. Assumes nothing.
-use Prim.Native.Nat.{ℕ, _+_, _*_, _-_, _/_, _%_, _≤_, _<_}
-use mathlib.Core.Path.{_≡_, refl, sym, ap, _∙_}
+use Prim.Native.Nat.{ℕ, _+_, _*_, _-_, _≤_}
+use mathlib.Core.Path.{_≡_, _∙_}
 use mathlib.Core.List.{List, [], _∷_}
 use native.Mathlib.Omega.{arith}
 use borrow.Author.Needs.{needs}
 use lib.Seq.{sets}
-use lib.ListN.{length, drop, getD, set, length-set}
-use Rattle.event_line.specs.Line.{hexOf, hexDigit}
+use lib.ListN.{length, drop, length-set}
+use Rattle.event_line.specs.Line.{hexOf}
 use Rattle.store.proofs.Runs.{put-two}
 use Rattle.event_line.proofs.Lines.{hex-length, hex-at, hex-done}
 use Rattle.event_line.proofs.write_hex.Statement.{statement}

@@ -1,10 +1,10 @@
 -- `event_line::write_line` meets its contract. Assumes nothing.
 use Prim.Native.Nat.{ℕ, _+_, _*_, _≤_}
 use mathlib.Core.Path.{_≡_, ap, _∙_}
-use mathlib.Core.List.{List, [], _∷_, _++_}
+use mathlib.Core.List.{List}
 use native.Mathlib.Omega.{arith}
 use borrow.Author.Needs.{needs}
-use lib.ListN.{length, set, length-set}
+use lib.ListN.{length, length-set}
 use Rattle.event_line.specs.Line.{lineOf, hexOf}
 use Rattle.event_line.proofs.Lines.{line-is, line-none, line-some, line-least, line-some-long, tail-none, tail-some, hex-length}
 use Rattle.event_line.proofs.write_line.Statement.{statement}

@@ -1,6 +1,6 @@
 -- `event_packet::packet_body` meets its contract. Assumes nothing.
 use Prim.Native.Nat.{ℕ, _+_}
-use mathlib.Core.Path.{_≡_, refl, sym, ap, _∙_}
+use mathlib.Core.Path.{_≡_, sym, ap, _∙_}
 use mathlib.Core.List.{List, [], _∷_, _++_}
 use native.Mathlib.Omega.{arith}
 use borrow.Author.Needs.{needs}
@@ -8,7 +8,7 @@ use lib.ListN.{length, set, replicate, length-append}
 use lib.Seq.{sets}
 use Rattle.store.proofs.Runs.{put-all, sets-append}
 use Rattle.store.proofs.Copies.{copied-in}
-use Rattle.event_packet.specs.Packet.{packetBody, counterByte}
+use Rattle.event_packet.specs.Packet.{packetBody}
 use Rattle.event_packet.proofs.packet_body.Statement.{statement}
 use Rattle.event_packet.proofs.packet_body.Tie as tie
 

@@ -1,17 +1,16 @@
 -- `event_packet::packet_frame` meets its contract. Assumes nothing.
-use Prim.Native.Nat.{ℕ, _+_, _-_}
-use mathlib.Core.Path.{_≡_, refl, sym, ap, _∙_}
+use Prim.Native.Nat.{ℕ, _-_}
+use mathlib.Core.Path.{_≡_, sym, _∙_}
 use mathlib.Core.List.{List}
 use mir.Syntax.{w8}
 use mir.Val.{Fits}
 use native.Mathlib.Omega.{arith}
 use borrow.Author.Needs.{needs}
-use lib.ListN.{length, take, drop, getD, replicate}
+use lib.ListN.{length, take, getD, replicate}
 use lib.Seq.{length-take-le}
 use Rattle.choice.specs.Pick.{tests}
 use Rattle.store.proofs.Runs.{put-all}
 use Rattle.store.proofs.Copies.{copied-in}
-use Rattle.protocol.specs.declared.PacketFrameCounter.{PacketFrameCounter}
 use Rattle.protocol.specs.declared.PacketFrameCounter.the-variants.{Frame, FinalFrame}
 use Rattle.protocol.specs.Lsf.{part}
 use Rattle.event_packet.specs.Packet.{packetOf, counterOf}

@@ -1,7 +1,6 @@
 -- `examples::lsf_line` is safe and ends. Assumes nothing.
 use Prim.Native.Nat.{_-_, _≤_}
 use mathlib.Core.Path.{_≡_}
-use native.Mathlib.Omega.{arith}
 use borrow.Author.Needs.{needs}
 use lib.ListN.{length}
 use Rattle.examples.proofs.lsf_line.Statement.{statement}

@@ -1,13 +1,9 @@
 -- `host_frame::obey_on` meets its contract. Assumes nothing.
 use mathlib.Core.Path.{_≡_, ap, _∙_}
-use mathlib.Core.List.{List}
-use Prim.Native.Nat.{ℕ}
 use borrow.Author.Needs.{needs}
-use Rattle.kiss_read.specs.declared.KissCommand.{KissCommand}
 use Rattle.kiss_read.specs.declared.KissCommand.the-variants.{DataFrame, TxDelay, P, FullDuplex}
 use Rattle.kiss_read.specs.declared.CommandRead.{CommandRead}
 use Rattle.kiss_read.specs.declared.CommandRead.the-variants.{Command, MalformedKissFrame as NoCommand, UnsupportedKissCommand as NoSuch}
-use Rattle.host_record.specs.declared.Host.{Host}
 use Rattle.host_frame.specs.Frame.{byCommand, obeyedOn}
 use Rattle.host_frame.proofs.Cases.{other-port, command-as}
 use Rattle.host_frame.proofs.obey_on.Statement.{statement}

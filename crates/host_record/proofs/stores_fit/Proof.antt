@@ -1,5 +1,4 @@
 -- `host_record::stores_fit` meets its contract. Assumes nothing.
-use borrow.Author.Needs.{needs}
 use Rattle.choice.specs.Pick.{tests}
 use Rattle.host_record.specs.Host.{storesFit}
 use Rattle.host_record.proofs.stores_fit.Statement.{statement}

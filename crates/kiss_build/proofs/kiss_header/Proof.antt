@@ -1,5 +1,4 @@
 -- `kiss_build::kiss_header` meets its contract. Assumes nothing.
-use mathlib.Core.Path.{_≡_, ap}
 use native.Mathlib.Omega.{arith}
 use borrow.Author.Needs.{needs}
 use Rattle.kiss_read.proofs.Commands.{command-small}

@@ -1,5 +1,5 @@
 -- `kiss_build::put_content` meets its contract. The lent part, once it is back, is a run of stores in the whole (`lent-over`). Assumes nothing.
-use Prim.Native.Nat.{ℕ, _+_, _-_, _≤_}
+use Prim.Native.Nat.{ℕ, _-_, _≤_}
 use mathlib.Core.Path.{_≡_, sym, ap, _∙_}
 use mathlib.Core.List.{List}
 use native.Mathlib.Omega.{arith}

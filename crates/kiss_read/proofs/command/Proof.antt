@@ -1,5 +1,5 @@
 -- `kiss_read::command` meets its contract. Assumes nothing.
-use mathlib.Core.Path.{_≡_, sym, ap, _∙_}
+use mathlib.Core.Path.{sym, ap, _∙_}
 use borrow.Author.Needs.{needs}
 use Rattle.kiss_read.specs.Read.{commandAt, commandRead}
 use Rattle.kiss_read.proofs.Headers.{no-header, header}

@@ -1,5 +1,5 @@
 -- `kiss_read::port` meets its contract. Assumes nothing.
-use mathlib.Core.Path.{_≡_, sym, ap}
+use mathlib.Core.Path.{sym, ap}
 use borrow.Author.Needs.{needs}
 use Rattle.kiss_read.specs.Read.{portAt, portRead}
 use Rattle.kiss_read.proofs.Headers.{no-header, header}

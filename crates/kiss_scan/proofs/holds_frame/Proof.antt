@@ -8,7 +8,6 @@ use borrow.Author.Needs.{needs}
 use lib.Dec.{eqb}
 use lib.ListN.{length, drop}
 use Rattle.kiss_reader.specs.Reader.{settle, front, isSome}
-use Rattle.kiss_scan.specs.Front.{orEmpty}
 use Rattle.kiss_reader.proofs.Indices.{settle-at, settle-within}
 use Rattle.kiss_scan.proofs.Fronts.{to-the-end, front-some}
 use Rattle.kiss_scan.proofs.holds_frame.Statement.{statement}

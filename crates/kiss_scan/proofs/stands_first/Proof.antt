@@ -1,10 +1,8 @@
 -- `kiss_scan::stands_first` meets its contract. Assumes nothing.
-use Prim.Native.Nat.{ℕ}
-use mathlib.Core.Path.{_≡_, sym, ap, ap₂, _∙_}
-use native.Mathlib.Omega.{arith}
+use mathlib.Core.Path.{sym, ap, ap₂, _∙_}
 use borrow.Author.Needs.{needs}
 use lib.Dec.{ltb}
-use lib.ListN.{length, drop, length-drop}
+use lib.ListN.{length-drop}
 use Rattle.kiss_read.specs.Scan.{notFend, runOf}
 use Rattle.kiss_scan.proofs.Fronts.{to-the-end, stands-short, stands-unopened, stands-empty, stands-closed}
 use Rattle.kiss_scan.proofs.stands_first.Statement.{statement}

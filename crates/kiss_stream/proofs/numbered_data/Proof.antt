@@ -1,13 +1,13 @@
 -- `kiss_stream::numbered_data` meets its contract. Assumes nothing.
 use Prim.Native.Nat.{ℕ, _+_, _/_, _%_}
-use mathlib.Core.Path.{_≡_, refl, ap, _∙_}
+use mathlib.Core.Path.{_≡_, ap, _∙_}
 use mathlib.Core.List.{List, _∷_}
 use native.Mathlib.Omega.{arith}
 use borrow.Author.Needs.{needs}
 use lib.ListN.{length, set, replicate}
 use Rattle.store.proofs.Runs.{put-all}
 use Rattle.store.proofs.Copies.{copied-in}
-use Rattle.kiss_stream.specs.Stream.{endMark, numberedData}
+use Rattle.kiss_stream.specs.Stream.{numberedData}
 use Rattle.kiss_stream.proofs.Streams.{endMark-small}
 use Rattle.kiss_stream.proofs.numbered_data.Statement.{statement}
 use Rattle.kiss_stream.proofs.numbered_data.Tie as tie

@@ -1,14 +1,14 @@
 -- `kiss_stream::stream_content` meets its contract. Assumes nothing.
-use Prim.Native.Nat.{ℕ, _+_, _*_, _/_, _%_, _≤_}
+use Prim.Native.Nat.{ℕ, _+_, _*_, _/_, _%_}
 use mathlib.Core.Path.{_≡_, ap, _∙_}
-use mathlib.Core.List.{List, [], _∷_, _++_}
+use mathlib.Core.List.{List, _∷_, _++_}
 use native.Mathlib.Omega.{arith}
 use borrow.Author.Needs.{needs}
 use lib.ListN.{length, set, replicate, length-set}
 use lib.Seq.{sets, length-sets}
 use Rattle.store.proofs.Copies.{copied-in}
 use Rattle.crc.specs.Crc.{twoBytes, sealed}
-use Rattle.kiss_stream.specs.Stream.{numberedData, streamContent}
+use Rattle.kiss_stream.specs.Stream.{streamContent}
 use Rattle.kiss_stream.proofs.Streams.{content-stored}
 use Rattle.kiss_stream.proofs.stream_content.Statement.{statement}
 use Rattle.kiss_stream.proofs.stream_content.Tie as tie

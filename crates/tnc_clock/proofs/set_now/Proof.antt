@@ -1,12 +1,10 @@
 -- `tnc_clock::set_now` meets its contract. Assumes nothing.
-use mathlib.Core.Bool.{true}
-use mathlib.Core.Path.{_≡_, refl, sym, ap, _∙_}
+use mathlib.Core.Path.{_≡_, sym, ap, _∙_}
 use borrow.Author.Needs.{needs}
 use Rattle.choice.specs.Pick.{pick-yes, pick-no, not-yes, not-no}
 use Rattle.channel.specs.declared.ChannelAnswer.{ChannelAnswer}
 use Rattle.channel.specs.declared.ChannelAnswer.the-variants.{Done, OutOfRange, OutOfBounds as NotSet}
 use Rattle.channel.specs.declared.ChannelSet.{ChannelSet}
-use Rattle.state.specs.declared.State.{State}
 use Rattle.tnc_core.specs.declared.Tnc.{Tnc}
 use Rattle.tnc_core.specs.Tnc.{withState}
 use Rattle.tnc_clock.specs.Clock.{timed, onClock, nowSet}

@@ -1,15 +1,13 @@
 -- `tnc_host::take_frames` meets its contract. The invariant: what is left to take gives what all of it gives. Assumes nothing.
-use Prim.Native.Nat.{ℕ, _≤_}
-use mathlib.Core.Bool.{true, false}
+use Prim.Native.Nat.{ℕ}
+use mathlib.Core.Bool.{true}
 use mathlib.Core.Path.{_≡_, refl, sym, ap, _∙_, subst}
 use mathlib.Core.List.{List}
 use borrow.Author.Needs.{needs}
 use borrow.Author.Tests.{not-true, not-false}
-use lib.ListN.{length}
 use Rattle.kiss_buffer.specs.declared.NextFrame.{NextFrame}
 use Rattle.kiss_buffer.specs.Calls.{frameIn}
 use Rattle.kiss_buffer.specs.Promises.{Box as ReaderBox, afterNextFrame, Sound}
-use Rattle.host_frame.specs.declared.FrameTaken.{FrameTaken}
 use Rattle.host_frame.specs.Promises.{Box as HostBox, leftBy, after, Sound as HostSound}
 use Rattle.host_frame.proofs.Kept as host
 use Rattle.tnc_drain.specs.Drain.{readerBox, hostBox, drained}

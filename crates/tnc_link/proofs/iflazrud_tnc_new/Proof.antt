@@ -1,7 +1,6 @@
 -- `tnc_link::iflazrud_tnc_new` meets its contract. Assumes nothing.
-use mathlib.Core.Path.{ap, _∙_}
+use mathlib.Core.Path.{_∙_}
 use borrow.Author.Needs.{needs}
-use Rattle.event_answer.specs.declared.EventBox.{EventBox}
 use Rattle.tnc_link.specs.Saved.{savedOf}
 use Rattle.tnc_link.proofs.iflazrud_tnc_new.Statement.{statement}
 use Rattle.tnc_link.proofs.iflazrud_tnc_new.Tie as tie

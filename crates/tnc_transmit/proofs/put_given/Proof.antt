@@ -1,8 +1,5 @@
 -- `tnc_transmit::put_given` meets its contract. Assumes nothing.
-use mathlib.Core.Bool.{Bool}
-use mathlib.Core.Path.{ap}
 use borrow.Author.Needs.{needs}
-use Rattle.tnc_transmit.specs.declared.TncTx.{TncTx}
 use Rattle.tnc_transmit.proofs.put_given.Statement.{statement}
 use Rattle.tnc_transmit.proofs.put_given.Tie as tie
 

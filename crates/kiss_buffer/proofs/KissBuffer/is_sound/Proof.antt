@@ -1,7 +1,7 @@
 -- `kiss_buffer::KissBuffer::is_sound` meets its contract. Assumes nothing.
 use native.Mathlib.Omega.{arith}
 use borrow.Author.Needs.{needs}
-use lib.ListN.{length, take, length-take}
+use lib.ListN.{length-take}
 use Rattle.choice.specs.Pick.{tests}
 use Rattle.kiss_buffer.specs.Calls.{soundBuffer}
 use Rattle.kiss_buffer.proofs.KissBuffer.is_sound.Statement.{statement}

@@ -1,5 +1,4 @@
 -- `sending::Sending::new` meets its contract. Assumes nothing.
-use Rattle.sending.specs.Sending.{newSending}
 use borrow.Author.Needs.{needs}
 use Rattle.sending.proofs.Sending.new.Statement.{statement}
 use Rattle.sending.proofs.Sending.new.Tie as tie
