@@ -2,7 +2,7 @@
 use mathlib.Core.Path.{_≡_, refl, sym, ap, ap₂, _∙_}
 use mathlib.Core.Bool.{Bool, true, false, _||_}
 use mathlib.Core.List.{List, [], _∷_, _++_, map}
-use Prim.Native.Nat.{ℕ, suc, _+_, _≤_, _<_, min}
+use Prim.Native.Nat.{ℕ, suc, _+_, _-_, _≤_, _<_, min}
 use native.Mathlib.Nat.{add-zero, add-suc, suc-add, le-step}
 use native.Mathlib.Numerals.{add-one}
 use native.Mathlib.Omega.{arith}
@@ -108,3 +108,13 @@ module _ (s t : List ℕ) (at n : ℕ) (e : t ≡ loaded s (at + n)) (h : at + n
       ∙ sym (lays-append d (to + n) t (codes (drop (at + (n + 16)) s)))
       ∙ ap (lays d (to + n)) (sym codes-left)
       ∙ rest
+
+-- ---- the bytes that are done one by one
+
+-- there is one, and they go no further than the n bytes of src from i on
+pub few-bounds : {n i m j : ℕ} (k : ℕ) → i < n → j < m → k ≡ min (min (n - i) (m - j)) 16 → (1 ≤ k) × (i + k ≤ n)
+few-bounds k h g e = (omega arith, omega arith)
+
+-- blocks, and a stop behind them, leave less to do
+pub later : (n i i′ stop k : ℕ) → i ≤ i′ → stop ≤ i → 1 ≤ k → i′ + k ≤ n → (n - i′) + (n - (i′ + k)) < (n - i) + (n - stop)
+later n i i′ stop k a b c d = omega arith

@@ -7,7 +7,7 @@ use kiss_escape::FESC;
 use kiss_escape::TFEND;
 use kiss_escape::TFESC;
 ghost use mathlib.Core.Path.{_≡_};
-ghost use Prim.Native.Nat.{_+_, _≤_};
+ghost use Prim.Native.Nat.{_+_, _≤_, min};
 ghost use lib.Dec.{eqb};
 ghost use lib.ListN.{length, drop};
 ghost use Rattle.choice.specs.Pick.{pick};
@@ -23,18 +23,21 @@ pub fn unescape(src: &[u8], dst: &mut [u8]) -> usize
     let mut i = 0;
     let mut j = 0;
     let mut stop = 0;
-    while i < src.len() {
+    loop {
         if stop <= i {
             let n = put_plain(src, i, dst, j);
             i += n;
             j += n;
-            stop = i + 16;
+            if src.len() <= i {
+                return j;
+            }
+            if dst.len() <= j {
+                return j;
+            }
+            stop = i + few(src.len() - i, dst.len() - j);
             continue;
         }
         let at = j;
-        if dst.len() <= at {
-            return at;
-        }
         let b = src[i];
         i += 1;
         j += 1;
@@ -51,7 +54,22 @@ pub fn unescape(src: &[u8], dst: &mut [u8]) -> usize
             dst[at] = b;
         }
     }
-    j
+}
+
+// How many bytes are done one by one: sixteen, as far as src and dst go, so that neither end is tested at each.
+fn few(left: usize, room: usize) -> usize
+    ensures { λ r. ⌜ r ≡ min (min left room) 16 ⌝ }
+{
+    if left < 16 {
+        if left < room {
+            return left;
+        }
+        return room;
+    }
+    if room < 16 {
+        return room;
+    }
+    16
 }
 
 // The byte that FESC before TFEND or TFESC stands for: a choice between two numbers, of which the compiler makes no branch.
