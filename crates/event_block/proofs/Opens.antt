@@ -1,13 +1,13 @@
 -- A run of bytes that complete no frame leaves what its events leave one by one. Assumes nothing.
 use Prim.Native.Nat.{ℕ, _+_, _-_, _≤_, _<_, min}
-use mathlib.Core.Bool.{Bool, true, false, not, false≢true}
+use mathlib.Core.Bool.{Bool, true, false, not}
 use mathlib.Core.Path.{_≡_, refl, sym, ap, ap₂, _∙_, subst}
 use mathlib.Core.List.{List, [], _∷_, _++_}
 use native.Mathlib.Omega.{arith}
 use borrow.Author.Tests.{le-leb, eqb-true}
 use lib.ListN.{length, take, drop, set, length-append, length-take, length-set, take-append-drop}
 use lib.Seq.{sets, sets-eq, take-at, drop-drop}
-use Rattle.choice.specs.Pick.{pick, pick-all, and, and-fst, and-snd, and-both}
+use Rattle.choice.specs.Pick.{pick, pick-all, and, and-fst, and-snd, and-both, not-no}
 use Rattle.store.specs.Room.{over}
 use Rattle.channel.specs.declared.Channel.{Channel}
 use Rattle.channel.specs.Access.{soundChannel}
@@ -181,11 +181,7 @@ module _ (x : EventBox) (r p q rx m y d : List ℕ) (n b : ℕ) (room : MOST ≤
 
   not-taken : x .tnc .buffer .taken ≡ false
   unfolding isOpen
-  not-taken = is-false (x .tnc .buffer .taken) (and-fst _ _ (and-snd _ _ (and-snd _ _ (and-snd _ _ ready))))
-    where
-      is-false : (t : Bool) → not t ≡ true → t ≡ false
-      is-false true e = absurd (false≢true e)
-      is-false false e = refl
+  not-taken = not-no refl (and-fst _ _ (and-snd _ _ (and-snd _ _ (and-snd _ _ ready))))
 
   begun : opened (take filled r) ≡ true
   unfolding isOpen

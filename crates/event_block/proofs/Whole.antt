@@ -16,8 +16,9 @@ use Rattle.event_answer.specs.Answer.{LINE}
 use Rattle.event_step.specs.Step.{Turn, applied}
 use Rattle.event_turn.specs.Spot.{Spot, spot}
 use Rattle.event_block.specs.Block.{lineFor, turned, Block, block, complete, ready, walk, blockRun, refusal}
-use Rattle.event_block.specs.Promises.{printed, opens, Runs, ends, turns, CutsChangeNothing}
+use Rattle.event_block.specs.Promises.{printed, opens, Runs, ends, turns, CutsChangeNothing, RunIsItsEvents}
 use Rattle.event_block.proofs.Numbers.{line-fits}
+use Rattle.event_block.proofs.Opens.{open-walks}
 use Rattle.event_block.proofs.Blocks.{walk-end, walk-no, walk-yes}
 
 printed-skip : (n : ℕ) (s : List ℕ) (w : World) (room : List ℕ) → printed n s w room ≡ printed 0 (drop n s) w room
@@ -121,3 +122,6 @@ run-prints (turns s more d out w room r) =
 
 pub cuts-change-nothing : CutsChangeNothing
 cuts-change-nothing s w room out r = run-prints r
+
+pub run-is-its-events : RunIsItsEvents
+run-is-its-events x s at d n reader packets streams rx message bytes h = open-walks x s at d n reader packets streams rx message bytes h refl

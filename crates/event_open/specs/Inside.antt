@@ -1,4 +1,4 @@
--- What a run of events 01 leaves whose bytes complete no frame. From no document: crate event_block proves that it is what these events leave one by one. Assumes nothing.
+-- What a run of events 01 leaves whose bytes complete no frame. From no document: it is what these events leave one by one (`RunIsItsEvents` of crate event_block). Assumes nothing.
 use Prim.Native.Nat.{ℕ, _+_, _-_}
 use mathlib.Core.Bool.{Bool, false, not}
 use mathlib.Core.List.{List, [], _∷_}
@@ -38,6 +38,7 @@ begins s at = and (ltb at (length s)) (eqb (getD s at 0) HOST)
 unfoldable pub keeps : ℕ → ℕ → ℕ → ℕ → Bool
 keeps kind b room place = and (eqb kind HOST) (and (notFend b) (and (leb LINE room) (ltb 0 place)))
 
+-- a run that goes no further
 abbrev pub ended : ℕ → List ℕ → ℕ → List ℕ → ℕ → Run × List ℕ × List ℕ
 ended u d n r f = (record { used = u; wrote = n; filled = f }, d, r)
 
@@ -56,12 +57,15 @@ filledTo x f =
       channel = x .channel;
     }
 
+-- nothing is taken
 abbrev pub stays : EventBox → ℕ → ℕ → Opened
 stays x at n = record { used = at; wrote = n; after = x }
 
+-- what a run leaves of the box, and of both stores
 abbrev pub ranTo : EventBox → Run × List ℕ × List ℕ → Opened × List ℕ × List ℕ
 ranTo x k = (record { used = k .0 .used; wrote = k .0 .wrote; after = filledTo x (k .0 .filled) }, k .1, k .2)
 
+-- the answer of `take_open`, the lines' room and the reader's store after it
 unfoldable pub openRun : EventBox → List ℕ → ℕ → List ℕ → ℕ → List ℕ → ℕ → ℕ → Opened × List ℕ × List ℕ
 openRun x s at d n r p q =
     pick (and (begins s at) (and (leb n (length d)) (isOpen (x .tnc) (x .channel) r p q)))
