@@ -3,8 +3,8 @@ use mathlib.Core.Path.{_≡_, ap}
 use mathlib.Core.Option.{Option, none, some}
 use mathlib.Core.List.{List}
 use Prim.Native.Nat.{ℕ}
-use Rattle.kiss_build.specs.declared.Built.{Built}
-use Rattle.kiss_build.specs.Frame.{putFrame}
+use Rattle.kiss_frame.specs.declared.Built.{Built}
+use Rattle.kiss_frame.specs.Frame.{putFrame}
 use Rattle.kiss_build.specs.Build.{Building, refusal, frameOf, unless, built}
 
 pub built-accepted : (b : Building) (d : List ℕ) → none ≡ refusal b → putFrame (frameOf b) d ≡ built b d

@@ -12,16 +12,16 @@ use borrow.Author.Tests.{ltb-false, eqb-true}
 use Rattle.choice.specs.Pick.{pick}
 use Rattle.store.specs.Room.{fits, over}
 use Rattle.kiss_read.specs.declared.KissCommand.{KissCommand}
-use Rattle.kiss_build.specs.declared.Built.{Built}
-use Rattle.kiss_build.specs.declared.Built.the-variants.{Frame, PayloadTooBig, LsfWrongSize, OutOfRange, NoRoom}
+use Rattle.kiss_frame.specs.declared.Built.{Built}
+use Rattle.kiss_frame.specs.declared.Built.the-variants.{Frame, PayloadTooBig, LsfWrongSize, OutOfRange, NoRoom}
 use Rattle.kiss_read.specs.declared.PortRead.the-variants.{Port}
 use Rattle.kiss_escape.specs.Escape.{FEND}
-use Rattle.kiss_build.specs.Frame.{headerOf, frame, putFrame, builtNumber}
-use Rattle.kiss_build.specs.Build.{Building, basicPacket, fullPacket, streamSetup, streamData, txDelay, persistence, fullDuplex, portOf, commandOf, contentOf, refusal, frameOf, unless, built}
+use Rattle.kiss_frame.specs.Frame.{frame, putFrame, builtNumber}
+use Rattle.kiss_build.specs.Build.{Building, basicPacket, fullPacket, streamSetup, streamData, txDelay, persistence, fullDuplex, portOf, commandOf, contentOf, refusal, headerOf, frameOf, unless, built}
 use Rattle.kiss_read.specs.Read.{commandNumber, portAt, portRead, commandFor, commandAt, commandRead}
 use Rattle.kiss_build.specs.Promises.{Accepted, AcceptedIsBuilt, BuiltAtMost1713, RefusedKeepsRoom, ReadsAs, BuiltReadsBack, StreamContentReadsBack}
 use Rattle.kiss_escape.proofs.Escapes.{esc-length}
-use Rattle.kiss_build.proofs.Frames.{frame-length, put-yes}
+use Rattle.kiss_frame.proofs.Frames.{frame-length, put-yes}
 use Rattle.kiss_read.proofs.Commands.{command-small, command-read}
 use Rattle.kiss_build.proofs.Builds.{built-accepted}
 use Rattle.kiss_stream.proofs.Streams.{stream-length, stream-of, stream-crc}

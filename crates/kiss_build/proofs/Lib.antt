@@ -1,4 +1,3 @@
-pub mod Frames
 pub mod Builds
 pub mod ReadBack
 pub mod Kept

@@ -11,7 +11,7 @@ use Rattle.store.specs.Room.{over}
 use Rattle.kiss_read.specs.declared.Decoded.the-variants.{Payload}
 use Rattle.kiss_escape.specs.Escape.{FEND, esc}
 use Rattle.kiss_read.specs.Scan.{afterFends}
-use Rattle.kiss_build.specs.Frame.{frame}
+use Rattle.kiss_frame.specs.Frame.{frame}
 use Rattle.kiss_read.specs.Read.{contentIn, payloadAt, decoded}
 use Rattle.kiss_escape.proofs.Kept.{escape-round-trip, escaped-has-no-fend}
 use Rattle.kiss_read.proofs.Scans.{stretch-clear, stretch-closed}

@@ -1,5 +1,5 @@
 -- The calls of the frame builders: what each asks for and which arguments it refuses, from document 01's "Answer numbers" and m17core's kiss.rs. Assumes nothing.
-use Prim.Native.Nat.{ℕ}
+use Prim.Native.Nat.{ℕ, _+_, _*_}
 use mathlib.Core.Bool.{Bool}
 use mathlib.Core.Option.{Option, none, some}
 use mathlib.Core.List.{List, [], _∷_, _++_}
@@ -8,11 +8,12 @@ use lib.ListN.{length}
 use Rattle.choice.specs.Pick.{pick}
 use Rattle.kiss_read.specs.declared.KissCommand.{KissCommand}
 use Rattle.kiss_read.specs.declared.KissCommand.the-variants.{DataFrame, TxDelay, P, FullDuplex}
-use Rattle.kiss_build.specs.declared.Built.{Built}
-use Rattle.kiss_build.specs.declared.Built.the-variants.{PayloadTooBig, LsfWrongSize, OutOfRange}
+use Rattle.kiss_read.specs.Read.{commandNumber}
+use Rattle.kiss_frame.specs.declared.Built.{Built}
+use Rattle.kiss_frame.specs.declared.Built.the-variants.{PayloadTooBig, LsfWrongSize, OutOfRange}
+use Rattle.kiss_frame.specs.Frame.{frame, putFrame}
 use Rattle.protocol.specs.declared.StreamFrame.{StreamFrame}
 use Rattle.kiss_stream.specs.Stream.{streamContent}
-use Rattle.kiss_build.specs.Frame.{headerOf, frame, putFrame}
 
 -- a builder with its arguments
 pub data Building : Type 0 where
@@ -66,6 +67,10 @@ refusal (txDelay port units) = portRefusal port
 refusal (persistence port units) = portRefusal port
 refusal (fullDuplex port on) = portRefusal port
 
+-- port times 16 plus command
+abbrev pub headerOf : ℕ → KissCommand → ℕ
+headerOf port command = port * 16 + commandNumber command
+
 abbrev pub frameOf : Building → List ℕ
 frameOf b = frame (headerOf (portOf b) (commandOf b)) (contentOf b)
 
@@ -73,10 +78,6 @@ frameOf b = frame (headerOf (portOf b) (commandOf b)) (contentOf b)
 abbrev pub unless : Option Built → List ℕ → List ℕ → Built × List ℕ
 unless (some refused) f d = (refused, d)
 unless none f d = putFrame f d
-
--- the same for a setting of any command
-unfoldable pub setting : ℕ → KissCommand → ℕ → List ℕ → Built × List ℕ
-setting port command value d = unless (portRefusal port) (frame (headerOf port command) (value ∷ [])) d
 
 -- the answer of a builder, and the room after it
 unfoldable pub built : Building → List ℕ → Built × List ℕ

@@ -9,11 +9,11 @@ use Rattle.store.specs.Room.{over}
 use Rattle.crc.specs.Crc.{crcOf}
 use Rattle.protocol.specs.declared.StreamFrame.{StreamFrame}
 use Rattle.kiss_read.specs.declared.KissCommand.{KissCommand}
-use Rattle.kiss_build.specs.declared.Built.the-variants.{Frame}
+use Rattle.kiss_frame.specs.declared.Built.the-variants.{Frame}
 use Rattle.kiss_read.specs.declared.PortRead.the-variants.{Port}
 use Rattle.kiss_read.specs.declared.CommandRead.the-variants.{Command}
 use Rattle.kiss_read.specs.declared.Decoded.the-variants.{Payload}
-use Rattle.kiss_build.specs.Frame.{builtNumber}
+use Rattle.kiss_frame.specs.Frame.{builtNumber}
 use Rattle.kiss_stream.specs.Stream.{streamContent, streamOf}
 use Rattle.kiss_build.specs.Build.{Building, basicPacket, fullPacket, streamSetup, streamData, txDelay, persistence, fullDuplex, portOf, commandOf, contentOf, refusal, frameOf, built}
 use Rattle.kiss_read.specs.Read.{portRead, commandRead, decoded}

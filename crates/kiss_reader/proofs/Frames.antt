@@ -13,10 +13,10 @@ use Rattle.kiss_escape.specs.Escape.{FEND, esc}
 use Rattle.kiss_escape.proofs.Kept.{escaped-has-no-fend}
 use Rattle.kiss_read.specs.Scan.{isFend, stretch}
 use Rattle.kiss_read.proofs.Scans.{stretch-clear, stretch-closed}
-use Rattle.kiss_build.specs.Frame.{headerOf, frame}
-use Rattle.kiss_build.specs.Build.{Building, portOf, commandOf, contentOf, frameOf}
+use Rattle.kiss_frame.specs.Frame.{frame}
+use Rattle.kiss_build.specs.Build.{Building, portOf, commandOf, contentOf, headerOf, frameOf}
 use Rattle.kiss_build.specs.Promises.{Accepted}
-use Rattle.kiss_build.proofs.Frames.{frame-length}
+use Rattle.kiss_frame.proofs.Frames.{frame-length}
 use Rattle.kiss_build.proofs.Kept.{header-right, built-at-most-1713}
 use Rattle.kiss_reader.specs.Meaning.{LONGEST, enclosed, kept, opened, framesOf}
 use Rattle.kiss_reader.specs.Promises.{joined, Folds, ends, same, fold, AllAccepted, none-accepted, one-accepted}

@@ -4,8 +4,8 @@
 use kiss_buffer::KissBuffer;
 use kiss_buffer::NextAnswer;
 use kiss_buffer::WriteAnswer;
-use kiss_build::Built;
 use kiss_escape::Escaped;
+use kiss_frame::Built;
 use kiss_read::CommandRead;
 use kiss_read::Decoded;
 use kiss_read::KissCommand;
@@ -220,9 +220,9 @@ fn build(kind: u8, a: &[u8], b: &[u8], room: &mut [u8]) -> Built {
 
 fn build_setting(kind: u8, port: u8, value: u8, room: &mut [u8]) -> Built {
     match kind {
-        5 => kiss_build::new_set_tx_delay(port, value, room),
-        6 => kiss_build::new_set_p(port, value, room),
-        _ => kiss_build::set_full_duplex(port, value != 0, room),
+        5 => kiss_settings::new_set_tx_delay(port, value, room),
+        6 => kiss_settings::new_set_p(port, value, room),
+        _ => kiss_settings::set_full_duplex(port, value != 0, room),
     }
 }
 

@@ -4,7 +4,7 @@ use mathlib.Core.Path.{_≡_, ap, _∙_}
 use mathlib.Core.List.{List}
 use native.Mathlib.Omega.{arith}
 use lib.ListN.{length}
-use Rattle.kiss_build.specs.declared.Built.{Built}
+use Rattle.kiss_frame.specs.declared.Built.{Built}
 use Rattle.kiss_build.specs.Build.{Building, built}
 use Rattle.kiss_build.specs.Promises.{Accepted}
 use Rattle.kiss_build.proofs.Kept.{accepted-is-built, built-at-most-1713}

@@ -4,7 +4,7 @@ use Rattle.choice.specs.Pick.{pick, and}
 use Rattle.choice.specs.Cases.{allPass, same}
 use Rattle.kiss_escape.specs.Escape.{escByte, esc, escaped}
 use Rattle.kiss_escape.specs.Unescape.{codes, afterFesc, lay, unescaped}
-use Rattle.kiss_build.specs.Frame.{frame, putFrame}
+use Rattle.kiss_frame.specs.Frame.{frame, putFrame}
 use Rattle.kiss_build.specs.Build.{refusal, built}
 use Rattle.kiss_read.specs.Scan.{stretch}
 use Rattle.kiss_reader.specs.Meaning.{kept, framesOf}

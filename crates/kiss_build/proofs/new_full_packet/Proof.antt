@@ -1,10 +1,7 @@
 -- `kiss_build::new_full_packet` meets its contract. Assumes nothing.
-use mathlib.Core.Path.{ap, _∙_}
-use mathlib.Core.List.{_++_}
-use Prim.Native.Nat.{ℕ}
+use mathlib.Core.Path.{_∙_}
 use borrow.Author.Needs.{needs}
 use Rattle.choice.specs.Pick.{tests}
-use Rattle.kiss_build.specs.Frame.{frame, putFrame}
 use Rattle.kiss_build.specs.Build.{fullPacket, refusal}
 use Rattle.kiss_build.proofs.Builds.{built-accepted, built-refused}
 use Rattle.kiss_build.proofs.new_full_packet.Statement.{statement}
@@ -21,11 +18,9 @@ returns-2 c = let a = c .before .before .before .before .before .args in built-r
 returns-3 : tie.Need-returns-3
 unfolding refusal
 returns-3 c =
-    let p = c .before .before in let a = p .before .before .before .before .before .before .before .before .args in
-    p .put-frame .ensures ∙ ap (λ (h : ℕ). putFrame (frame h (a .lsf .now ++ a .packet .now)) (a .room .now)) (p .before .before .kiss-header .ensures)
-    ∙ built-accepted (fullPacket (a .lsf .now) (a .packet .now)) (a .room .now) (search tests)
+    let p = c .before .before in let a = p .before .before .before .before .before .before .before .args in
+    p .put-frame .ensures ∙ built-accepted (fullPacket (a .lsf .now) (a .packet .now)) (a .room .now) (search tests)
 
 pub new-full-packet-spec : {M : Type 1} → statement M
 new-full-packet-spec =
-    tie.close
-    (tie.spec returns returns-2 (λ c κs. search needs) (λ c κs. search needs) (λ c. search needs) returns-3)
+    tie.close (tie.spec returns returns-2 (λ c κs. search needs) (λ c. search needs) returns-3)

@@ -1,9 +1,7 @@
 -- `kiss_build::new_stream_setup` meets its contract. Assumes nothing.
-use mathlib.Core.Path.{ap, _∙_}
-use Prim.Native.Nat.{ℕ}
+use mathlib.Core.Path.{_∙_}
 use borrow.Author.Needs.{needs}
 use Rattle.choice.specs.Pick.{tests}
-use Rattle.kiss_build.specs.Frame.{frame, putFrame}
 use Rattle.kiss_build.specs.Build.{streamSetup, refusal}
 use Rattle.kiss_build.proofs.Builds.{built-accepted, built-refused}
 use Rattle.kiss_build.proofs.new_stream_setup.Statement.{statement}
@@ -16,11 +14,9 @@ returns c = let a = c .before .before .before .args in built-refused (streamSetu
 returns-2 : tie.Need-returns-2
 unfolding refusal
 returns-2 c =
-    let p = c .before .before in let a = p .before .before .before .before .before .before .before .args in
-    p .put-frame .ensures ∙ ap (λ (h : ℕ). putFrame (frame h (a .lsf .now)) (a .room .now)) (p .before .before .before .kiss-header .ensures)
-    ∙ built-accepted (streamSetup (a .lsf .now)) (a .room .now) (search tests)
+    let p = c .before .before in let a = p .before .before .before .before .before .before .args in
+    p .put-frame .ensures ∙ built-accepted (streamSetup (a .lsf .now)) (a .room .now) (search tests)
 
 pub new-stream-setup-spec : {M : Type 1} → statement M
 new-stream-setup-spec =
-    tie.close
-    (tie.spec returns (λ c κs. search needs) (λ c. search needs) (λ c κs. search needs) (λ c. search needs) returns-2)
+    tie.close (tie.spec returns (λ c. search needs) (λ c κs. search needs) (λ c. search needs) returns-2)

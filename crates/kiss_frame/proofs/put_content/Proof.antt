@@ -1,4 +1,4 @@
--- `kiss_build::put_content` meets its contract. The lent part, once it is back, is a run of stores in the whole (`lent-over`). Assumes nothing.
+-- `kiss_frame::put_content` meets its contract. The lent part, once it is back, is a run of stores in the whole (`lent-over`). Assumes nothing.
 use Prim.Native.Nat.{ℕ, _-_, _≤_}
 use mathlib.Core.Path.{_≡_, sym, ap, _∙_}
 use mathlib.Core.List.{List}
@@ -12,8 +12,8 @@ use Rattle.kiss_escape.specs.Escape.{esc}
 use Rattle.kiss_escape.specs.declared.Escaped.{Escaped}
 use Rattle.kiss_escape.specs.declared.Escaped.the-variants.{Wrote, NoRoom}
 use Rattle.kiss_escape.proofs.Escapes.{escaped-in, escaped-yes}
-use Rattle.kiss_build.proofs.put_content.Statement.{statement}
-use Rattle.kiss_build.proofs.put_content.Tie as tie
+use Rattle.kiss_frame.proofs.put_content.Statement.{statement}
+use Rattle.kiss_frame.proofs.put_content.Tie as tie
 
 -- what both arms of the match answer
 abbrev countOf : Escaped → ℕ

@@ -9,9 +9,9 @@ use borrow.Author.Tests.{le-leb, lt-leb}
 use Rattle.choice.specs.Pick.{pick}
 use Rattle.store.specs.Room.{over}
 use Rattle.store.proofs.Runs.{put-front, sets-append}
-use Rattle.kiss_build.specs.declared.Built.the-variants.{Frame, NoRoom}
+use Rattle.kiss_frame.specs.declared.Built.the-variants.{Frame, NoRoom}
 use Rattle.kiss_escape.specs.Escape.{FEND, esc}
-use Rattle.kiss_build.specs.Frame.{frame, putFrame}
+use Rattle.kiss_frame.specs.Frame.{frame, putFrame}
 use Rattle.kiss_escape.proofs.Escapes.{esc-append}
 
 -- ---- a frame's length

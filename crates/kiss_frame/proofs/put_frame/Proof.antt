@@ -1,4 +1,4 @@
--- `kiss_build::put_frame` meets its contract: its stores, one after the other, make the frame. Assumes nothing.
+-- `kiss_frame::put_frame` meets its contract: its stores, one after the other, make the frame. Assumes nothing.
 use Prim.Native.Nat.{ℕ, _+_, _≤_, _<_}
 use mathlib.Core.Path.{_≡_, sym, ap, _∙_}
 use mathlib.Core.List.{List, _++_}
@@ -8,12 +8,12 @@ use borrow.Author.Tests.{leb-true, leb-false}
 use lib.ListN.{length, set, length-set}
 use lib.Seq.{sets, length-sets}
 use Rattle.store.specs.Room.{over}
-use Rattle.kiss_build.specs.declared.Built.the-variants.{Frame}
+use Rattle.kiss_frame.specs.declared.Built.the-variants.{Frame}
 use Rattle.kiss_escape.specs.Escape.{FEND, esc}
-use Rattle.kiss_build.specs.Frame.{frame}
-use Rattle.kiss_build.proofs.Frames.{frame-length-two, put-yes, put-no, frame-stored}
-use Rattle.kiss_build.proofs.put_frame.Statement.{statement}
-use Rattle.kiss_build.proofs.put_frame.Tie as tie
+use Rattle.kiss_frame.specs.Frame.{frame}
+use Rattle.kiss_frame.proofs.Frames.{frame-length-two, put-yes, put-no, frame-stored}
+use Rattle.kiss_frame.proofs.put_frame.Statement.{statement}
+use Rattle.kiss_frame.proofs.put_frame.Tie as tie
 
 -- past the test: the frame fits
 module _ (c : tie.Then1) where

@@ -1,9 +1,10 @@
--- `kiss_build::set_full_duplex` meets its contract. Assumes nothing.
+-- `kiss_settings::set_full_duplex` meets its contract. Assumes nothing.
 use borrow.Author.Needs.{needs}
 use Rattle.choice.specs.Pick.{pick}
-use Rattle.kiss_build.specs.Build.{refusal, setting, built}
-use Rattle.kiss_build.proofs.set_full_duplex.Statement.{statement}
-use Rattle.kiss_build.proofs.set_full_duplex.Tie as tie
+use Rattle.kiss_build.specs.Build.{refusal, built}
+use Rattle.kiss_settings.specs.Setting.{setting}
+use Rattle.kiss_settings.proofs.set_full_duplex.Statement.{statement}
+use Rattle.kiss_settings.proofs.set_full_duplex.Tie as tie
 
 returns : tie.Need-returns
 unfolding built refusal setting pick

@@ -1,18 +1,12 @@
 -- A KISS frame, from the KISS paper and document 01 under "KISS bytes", and how it goes into a room. Assumes nothing.
-use Prim.Native.Nat.{ℕ, _+_, _*_}
+use Prim.Native.Nat.{ℕ}
 use mathlib.Core.List.{List, [], _∷_, _++_}
 use lib.ListN.{length}
 use Rattle.choice.specs.Pick.{pick}
 use Rattle.store.specs.Room.{fits, over}
-use Rattle.kiss_read.specs.declared.KissCommand.{KissCommand}
-use Rattle.kiss_read.specs.Read.{commandNumber}
-use Rattle.kiss_build.specs.declared.Built.{Built}
-use Rattle.kiss_build.specs.declared.Built.the-variants.{Frame, PayloadTooBig, LsfWrongSize, OutOfRange, NoRoom}
 use Rattle.kiss_escape.specs.Escape.{FEND, esc}
-
--- port times 16 plus command
-abbrev pub headerOf : ℕ → KissCommand → ℕ
-headerOf port command = port * 16 + commandNumber command
+use Rattle.kiss_frame.specs.declared.Built.{Built}
+use Rattle.kiss_frame.specs.declared.Built.the-variants.{Frame, PayloadTooBig, LsfWrongSize, OutOfRange, NoRoom}
 
 -- FEND, header, escaped content, FEND
 unfoldable pub frame : ℕ → List ℕ → List ℕ
