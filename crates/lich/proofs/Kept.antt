@@ -7,7 +7,7 @@ use native.Mathlib.Nat.{zero-div}
 use native.Mathlib.Omega.{arith}
 use lib.Dec.{eqb, lit<}
 use Rattle.choice.specs.Pick.{pick, tests}
-use Rattle.protocol.specs.Lsf.{bitsAt}
+use Rattle.lsf_layout.specs.Bits.{bitsAt}
 use Rattle.lich.specs.declared.LichCollection.{LichCollection}
 use Rattle.lich.specs.declared.Assembly.the-variants.{Whole}
 use Rattle.lich.specs.Lich.{segmentOf, heard, heardCount, newCollection, withSegment, segmentSet, assembled}

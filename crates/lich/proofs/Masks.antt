@@ -7,7 +7,7 @@ use lib.Count.{onesIn, ones}
 use lib.Dec.{T, eqb, eqb→eq}
 use Rattle.choice.specs.Pick.{pick, and}
 use Rattle.choice.proofs.Table.{each, below, below-two}
-use Rattle.protocol.specs.Lsf.{bitsAt, withBitsAt}
+use Rattle.lsf_layout.specs.Bits.{bitsAt, withBitsAt}
 use Rattle.lich.specs.Lich.{segmentBit, heard, heardCount}
 
 -- the mask with segment i heard

@@ -15,7 +15,8 @@ use Rattle.lich.specs.declared.SegmentSet.{SegmentSet}
 use Rattle.lich.specs.declared.Assembly.{Assembly}
 use Rattle.lich.specs.declared.Assembly.the-variants.{Whole, Missing, OutOfBounds as NoAssembly}
 use Rattle.lich.specs.declared.Assembled.{Assembled}
-use Rattle.protocol.specs.Lsf.{Field, part, bitsAt, withBitsAt}
+use Rattle.lsf_layout.specs.Bits.{Field, bitsAt, withBitsAt}
+use Rattle.lsf_layout.specs.Bytes.{part}
 
 -- segment i of an LSF
 abbrev pub segmentOf : ℕ → List ℕ → List ℕ

@@ -1,7 +1,7 @@
 // The runs of bits in an LSF's type field: each read from the type, and the type with another number there, of which only the run's own bits are taken.
 ghost use mathlib.Core.Path.{_≡_};
 ghost use Prim.Native.Nat.{_%_};
-ghost use Rattle.lsf_bits.specs.Bits.{bitsAt, withBitsAt, modeBits, dataTypeBits, encryptionBits, channelBits};
+ghost use Rattle.lsf_layout.specs.Bits.{bitsAt, withBitsAt, modeBits, dataTypeBits, encryptionBits, channelBits};
 
 pub fn mode_bits(t: u16) -> u16
     ensures { λ r. ⌜ r ≡ bitsAt modeBits t ⌝ }

@@ -1,16 +1,9 @@
--- The layout of the link setup frame (LSF), from the M17 protocol specification.
--- 30 bytes: destination 0-5, source 6-11, type 12-13 (high byte first), meta 14-27, CRC 28-29. Assumes nothing.
-use Prim.Native.Nat.{ℕ, _+_, _*_}
+-- The meta field of the link setup frame (LSF), and the frame with another type, from the M17 protocol specification. Where the fields stand is in `lsf_layout`. Assumes nothing.
+use Prim.Native.Nat.{ℕ}
 use mathlib.Core.List.{List, _++_}
-use lib.ListN.{take, drop, getD}
+use lib.ListN.{take}
 use Rattle.crc.specs.Crc.{twoBytes, sealed}
-
--- n bytes from place `from` on
-abbrev pub part : ℕ → ℕ → List ℕ → List ℕ
-part from n f = take n (drop from f)
-
-unfoldable pub typeField : List ℕ → ℕ
-typeField f = getD f 12 0 * 256 + getD f 13 0
+use Rattle.lsf_layout.specs.Bytes.{part}
 
 unfoldable pub meta : List ℕ → List ℕ
 meta f = part 14 14 f

@@ -2,7 +2,8 @@
 ghost use mathlib.Core.Path.{_≡_};
 ghost use lib.ListN.{take};
 ghost use Rattle.crc.specs.Crc.{sealed};
-ghost use Rattle.lsf_bytes.specs.Bytes.{typeField, meta, retyped};
+ghost use Rattle.lsf_layout.specs.Bytes.{typeField};
+ghost use Rattle.lsf_bytes.specs.Bytes.{meta, retyped};
 
 pub fn lsf_type(bytes: [u8; 30]) -> u16
     ensures { λ r. ⌜ r ≡ typeField bytes ⌝ }

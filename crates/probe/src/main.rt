@@ -318,7 +318,7 @@ fn lsf(kind: u8, f: LsfFrame, v: u8, room: &mut [u8]) -> usize {
         return lsf_number(kind, f);
     }
     if kind == 21 {
-        return put(&f.meta(), room);
+        return put(&lsf_fields::meta(f), room);
     }
     put_lsf(lsf_set(kind, v, f), room)
 }
@@ -327,18 +327,18 @@ fn lsf_number(kind: u8, f: LsfFrame) -> usize {
     match kind {
         16 => f.check_crc() as usize,
         17 => mode_number(f.mode()),
-        18 => data_type_number(f.data_type()),
-        19 => encryption_number(f.encryption_type()),
-        _ => f.channel_access_number() as usize,
+        18 => data_type_number(lsf_fields::data_type(f)),
+        19 => encryption_number(lsf_fields::encryption_type(f)),
+        _ => lsf_fields::channel_access_number(f) as usize,
     }
 }
 
 fn lsf_set(kind: u8, v: u8, f: LsfFrame) -> LsfFrame {
     match kind {
-        22 => f.set_mode(mode(v)),
-        23 => f.set_data_type(data_type(v)),
-        24 => f.set_encryption_type(encryption(v)),
-        25 => f.set_channel_access_number(v),
+        22 => lsf_fields::set_mode(f, mode(v)),
+        23 => lsf_fields::set_data_type(f, data_type(v)),
+        24 => lsf_fields::set_encryption_type(f, encryption(v)),
+        25 => lsf_fields::set_channel_access_number(f, v),
         _ => LsfFrame::packet_basic(),
     }
 }

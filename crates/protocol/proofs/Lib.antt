@@ -1,4 +1,1 @@
-pub mod Small
-pub mod Frames
-pub mod Fields
 pub mod Kept

@@ -1,4 +1,4 @@
-// The frames of M17 as m17core's protocol.rs has them: the link setup frame (LSF) and its fields, stream and packet frames. The LICH collection is in crate `lich`.
+// The frames of M17 as m17core's protocol.rs has them: the link setup frame (LSF), stream and packet frames. The LSF's fields are in crate `lsf_fields`, the LICH collection in `lich`.
 mod lsf;
 
 pub use lsf::DataType;

@@ -1,7 +1,7 @@
 -- `lsf_bits::channel_bits` meets its contract. Assumes nothing.
 use native.Mathlib.Omega.{arith}
 use borrow.Author.Needs.{needs}
-use Rattle.lsf_bits.specs.Bits.{bitsAt}
+use Rattle.lsf_layout.specs.Bits.{bitsAt}
 use Rattle.lsf_bits.proofs.channel_bits.Statement.{statement}
 use Rattle.lsf_bits.proofs.channel_bits.Tie as tie
 

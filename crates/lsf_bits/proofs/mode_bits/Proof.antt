@@ -1,6 +1,6 @@
 -- `lsf_bits::mode_bits` meets its contract. Assumes nothing.
 use native.Mathlib.Nat.{div-one}
-use Rattle.lsf_bits.specs.Bits.{bitsAt}
+use Rattle.lsf_layout.specs.Bits.{bitsAt}
 use Rattle.lsf_bits.proofs.mode_bits.Statement.{statement}
 use Rattle.lsf_bits.proofs.mode_bits.Tie as tie
 

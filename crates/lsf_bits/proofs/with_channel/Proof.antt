@@ -1,7 +1,7 @@
 -- `lsf_bits::with_channel` meets its contract. Assumes nothing.
 use mathlib.Core.Path.{refl}
 use borrow.Author.Needs.{needs}
-use Rattle.lsf_bits.specs.Bits.{withBitsAt}
+use Rattle.lsf_layout.specs.Bits.{withBitsAt}
 use Rattle.lsf_bits.proofs.with_channel.Statement.{statement}
 use Rattle.lsf_bits.proofs.with_channel.Tie as tie
 

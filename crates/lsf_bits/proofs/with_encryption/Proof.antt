@@ -1,7 +1,7 @@
 -- `lsf_bits::with_encryption` meets its contract. Assumes nothing.
 use mathlib.Core.Path.{refl}
 use borrow.Author.Needs.{needs}
-use Rattle.lsf_bits.specs.Bits.{withBitsAt}
+use Rattle.lsf_layout.specs.Bits.{withBitsAt}
 use Rattle.lsf_bits.proofs.with_encryption.Statement.{statement}
 use Rattle.lsf_bits.proofs.with_encryption.Tie as tie
 

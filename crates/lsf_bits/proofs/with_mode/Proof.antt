@@ -1,7 +1,7 @@
 -- `lsf_bits::with_mode` meets its contract. Assumes nothing.
 use native.Mathlib.Omega.{arith}
 use borrow.Author.Needs.{needs}
-use Rattle.lsf_bits.specs.Bits.{withBitsAt}
+use Rattle.lsf_layout.specs.Bits.{withBitsAt}
 use Rattle.lsf_bits.proofs.with_mode.Statement.{statement}
 use Rattle.lsf_bits.proofs.with_mode.Tie as tie
 

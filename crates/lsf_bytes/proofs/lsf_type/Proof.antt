@@ -6,7 +6,7 @@ use mir.Val.{Fits}
 use native.Mathlib.Omega.{arith}
 use borrow.Author.Needs.{needs}
 use lib.ListN.{getD}
-use Rattle.lsf_bytes.specs.Bytes.{typeField}
+use Rattle.lsf_layout.specs.Bytes.{typeField}
 use Rattle.lsf_bytes.proofs.lsf_type.Statement.{statement}
 use Rattle.lsf_bytes.proofs.lsf_type.Tie as tie
 
@@ -14,7 +14,7 @@ byte : (c : tie.Start) (i : ℕ) → Fits w8 (getD (c .args .t1) i 0)
 byte c i = search needs
 
 mul-result : tie.Need-mul-result
-mul-result c = omega (arith, byte c 12)
+mul-result c = omega (arith, byte c 12, byte c 13)
 
 add-result : tie.Need-add-result
 add-result c = omega (arith, byte c 12, byte c 13)

@@ -1,16 +1,17 @@
--- `protocol::lsf::LsfFrame::encryption_type` meets its contract. Assumes nothing.
+-- `lsf_fields::encryption_type` meets its contract. Assumes nothing.
 use mathlib.Core.Path.{_≡_}
 use borrow.Author.Needs.{needs}
 use Rattle.choice.specs.Pick.{pick, tests}
 use Rattle.protocol.specs.Kinds.{encryptionOf}
-use Rattle.protocol.specs.Lsf.{fieldOf, encryptionBits}
-use Rattle.protocol.proofs.Frames.{field-read}
-use Rattle.protocol.proofs.lsf.LsfFrame.encryption_type.Statement.{statement}
-use Rattle.protocol.proofs.lsf.LsfFrame.encryption_type.Tie as tie
+use Rattle.lsf_layout.specs.Bits.{encryptionBits}
+use Rattle.lsf_layout.specs.Lsf.{fieldOf}
+use Rattle.lsf_fields.proofs.Frames.{field-read}
+use Rattle.lsf_fields.proofs.encryption_type.Statement.{statement}
+use Rattle.lsf_fields.proofs.encryption_type.Tie as tie
 
 -- the bits that were matched on
-read : (c : tie.After-encryption-bits) → c .encryption-bits .result ≡ fieldOf encryptionBits (c .before .before .before .args .self .0)
-read c = field-read (c .before .before .before .args .self .0) encryptionBits (c .encryption-bits .ensures) (c .before .lsf-type .ensures)
+read : (c : tie.After-encryption-bits) → c .encryption-bits .result ≡ fieldOf encryptionBits (c .before .before .before .args .lsf .0)
+read c = field-read (c .before .before .before .args .lsf .0) encryptionBits (c .encryption-bits .ensures) (c .before .lsf-type .ensures)
 
 returns : tie.Need-returns
 unfolding encryptionOf pick

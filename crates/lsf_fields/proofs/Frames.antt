@@ -7,7 +7,11 @@ use native.Mathlib.Omega.{arith}
 use lib.ListN.{length, take, drop, length-append, length-drop}
 use lib.Seq.{take-at, drop-at, drop-drop, getD-drop, length-take-le}
 use Rattle.crc.specs.Crc.{twoBytes, crcOf, sealed}
-use Rattle.protocol.specs.Lsf.{Field, typeField, meta, bitsAt, withBitsAt, fieldOf, retyped, withField}
+use Rattle.lsf_layout.specs.Bits.{Field, bitsAt, withBitsAt}
+use Rattle.lsf_layout.specs.Bytes.{typeField}
+use Rattle.lsf_layout.specs.Lsf.{fieldOf}
+use Rattle.lsf_bytes.specs.Bytes.{meta, retyped}
+use Rattle.lsf_fields.specs.Lsf.{withField}
 
 -- what a getter's code does: it takes a run of bits of the type
 pub field-read : (f : List ℕ) (k : Field) {n t : ℕ} → n ≡ bitsAt k t → t ≡ typeField f → n ≡ fieldOf k f

@@ -1,16 +1,17 @@
--- `protocol::lsf::LsfFrame::data_type` meets its contract. Assumes nothing.
+-- `lsf_fields::data_type` meets its contract. Assumes nothing.
 use mathlib.Core.Path.{_≡_}
 use borrow.Author.Needs.{needs}
 use Rattle.choice.specs.Pick.{pick, tests}
 use Rattle.protocol.specs.Kinds.{dataTypeOf}
-use Rattle.protocol.specs.Lsf.{fieldOf, dataTypeBits}
-use Rattle.protocol.proofs.Frames.{field-read}
-use Rattle.protocol.proofs.lsf.LsfFrame.data_type.Statement.{statement}
-use Rattle.protocol.proofs.lsf.LsfFrame.data_type.Tie as tie
+use Rattle.lsf_layout.specs.Bits.{dataTypeBits}
+use Rattle.lsf_layout.specs.Lsf.{fieldOf}
+use Rattle.lsf_fields.proofs.Frames.{field-read}
+use Rattle.lsf_fields.proofs.data_type.Statement.{statement}
+use Rattle.lsf_fields.proofs.data_type.Tie as tie
 
 -- the bits that were matched on
-read : (c : tie.After-data-type-bits) → c .data-type-bits .result ≡ fieldOf dataTypeBits (c .before .before .before .args .self .0)
-read c = field-read (c .before .before .before .args .self .0) dataTypeBits (c .data-type-bits .ensures) (c .before .lsf-type .ensures)
+read : (c : tie.After-data-type-bits) → c .data-type-bits .result ≡ fieldOf dataTypeBits (c .before .before .before .args .lsf .0)
+read c = field-read (c .before .before .before .args .lsf .0) dataTypeBits (c .data-type-bits .ensures) (c .before .lsf-type .ensures)
 
 returns : tie.Need-returns
 unfolding dataTypeOf pick

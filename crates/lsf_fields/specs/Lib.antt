@@ -1,0 +1,2 @@
+pub mod Lsf
+pub mod Promises
