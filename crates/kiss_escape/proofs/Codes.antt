@@ -5,10 +5,9 @@ use mathlib.Core.List.{List, [], _∷_}
 use Prim.Native.Nat.{ℕ}
 use lib.Dec.{eqb}
 use borrow.Author.Tests.{eq-eqb, ne-eqb}
-use Rattle.choice.specs.Pick.{pick}
+use Rattle.choice.specs.Pick.{pick, pick-either, pick-neither}
 use Rattle.kiss_escape.specs.Escape.{FEND, FESC, TFEND, TFESC}
 use Rattle.kiss_escape.specs.Unescape.{byte, as-found, afterFesc, codes}
-use Rattle.kiss_escape.proofs.Bytes.{pick-either, pick-neither}
 
 pub afterFesc-known : (b : ℕ) {r : ℕ} → (eqb b TFEND || eqb b TFESC) ≡ true → r ≡ pick (eqb b TFEND) FEND FESC → afterFesc b ≡ byte r
 unfolding afterFesc

@@ -9,12 +9,12 @@ use lib.Dec.{eqb}
 use lib.ListN.{length, drop, getD, length-append, drop-of-length-le}
 use lib.Seq.{drop-cons}
 use borrow.Author.Tests.{eq-eqb, ne-eqb, le-leb, lt-leb}
-use Rattle.choice.specs.Pick.{pick}
+use Rattle.choice.specs.Pick.{pick, pick-either, pick-neither}
 use Rattle.store.specs.Room.{over}
 use Rattle.kiss_escape.specs.declared.Escaped.{Escaped}
 use Rattle.kiss_escape.specs.declared.Escaped.the-variants.{Wrote, NoRoom}
 use Rattle.kiss_escape.specs.Escape.{FEND, FESC, TFEND, TFESC, escByte, esc, escaped}
-use Rattle.kiss_escape.proofs.Bytes.{Kind, fend, fesc, other, kind, pick-either, pick-neither}
+use Rattle.kiss_escape.proofs.Bytes.{Kind, fend, fesc, other, kind}
 
 -- ---- one byte
 
