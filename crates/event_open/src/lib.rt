@@ -132,7 +132,7 @@ fn frame_is_open(held: &[u8]) -> bool
     if held[0] != FEND {
         return false;
     }
-    kiss_read::to_fend(&held[1..]) == held.len() - 1
+    kiss_fend::to_fend(&held[1..]) == held.len() - 1
 }
 
 fn keep_bytes(

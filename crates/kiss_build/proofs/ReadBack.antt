@@ -10,11 +10,11 @@ use Rattle.choice.specs.Pick.{pick}
 use Rattle.store.specs.Room.{over}
 use Rattle.kiss_read.specs.declared.Decoded.the-variants.{Payload}
 use Rattle.kiss_escape.specs.Escape.{FEND, esc}
-use Rattle.kiss_read.specs.Scan.{afterFends}
+use Rattle.kiss_fend.specs.Scan.{afterFends}
 use Rattle.kiss_frame.specs.Frame.{frame}
 use Rattle.kiss_read.specs.Read.{contentIn, payloadAt, decoded}
 use Rattle.kiss_escape.proofs.Kept.{escape-round-trip, escaped-has-no-fend}
-use Rattle.kiss_read.proofs.Scans.{stretch-clear, stretch-closed}
+use Rattle.kiss_fend.proofs.Scans.{stretch-clear, stretch-closed}
 
 -- ---- a frame
 

@@ -1,31 +1,21 @@
 -- The laws of `codes` at the head of a content. Assumes nothing.
-use mathlib.Core.Path.{_≡_, refl, sym}
-use mathlib.Core.Bool.{Bool, true, false, _||_, false≢true}
+use mathlib.Core.Path.{_≡_}
+use mathlib.Core.Bool.{true, false, _||_}
 use mathlib.Core.List.{List, [], _∷_}
 use Prim.Native.Nat.{ℕ}
 use lib.Dec.{eqb}
 use borrow.Author.Tests.{eq-eqb, ne-eqb}
-use Rattle.choice.specs.Pick.{pick}
+use Rattle.choice.specs.Pick.{pick, pick-either, pick-neither}
 use Rattle.kiss_escape.specs.Escape.{FEND, FESC, TFEND, TFESC}
 use Rattle.kiss_escape.specs.Unescape.{byte, as-found, afterFesc, codes}
 
 pub afterFesc-known : (b : ℕ) {r : ℕ} → (eqb b TFEND || eqb b TFESC) ≡ true → r ≡ pick (eqb b TFEND) FEND FESC → afterFesc b ≡ byte r
-unfolding afterFesc pick
-afterFesc-known b h e = rw e (by (eqb b TFEND) (eqb b TFESC) h)
-  where
-    by : (p q : Bool) → (p || q) ≡ true → pick p (byte FEND) (pick q (byte FESC) as-found) ≡ byte (pick p FEND FESC)
-    by true q k = refl
-    by false true k = refl
-    by false false k = absurd (false≢true k)
+unfolding afterFesc
+afterFesc-known b h e = rw e (pick-either byte (eqb b TFEND) (eqb b TFESC) FEND FESC as-found h)
 
 pub afterFesc-other : (b : ℕ) → (eqb b TFEND || eqb b TFESC) ≡ false → afterFesc b ≡ as-found
-unfolding afterFesc pick
-afterFesc-other b h = by (eqb b TFEND) (eqb b TFESC) h
-  where
-    by : (p q : Bool) → (p || q) ≡ false → pick p (byte FEND) (pick q (byte FESC) as-found) ≡ as-found
-    by true q k = absurd (false≢true (sym k))
-    by false true k = absurd (false≢true (sym k))
-    by false false k = refl
+unfolding afterFesc
+afterFesc-other b h = pick-neither (eqb b TFEND) (eqb b TFESC) _ _ as-found h
 
 pub codes-byte : (b : ℕ) (s : List ℕ) → (b ≡ FESC → ⊥) → codes (b ∷ s) ≡ byte b ∷ codes s
 unfolding codes pick

@@ -1,6 +1,6 @@
 -- The laws of `esc`: one byte, a list, and one step of a loop that reads at an index. Assumes nothing.
-use mathlib.Core.Path.{_≡_, refl, sym, ap, _∙_}
-use mathlib.Core.Bool.{Bool, true, false, _||_, false≢true}
+use mathlib.Core.Path.{_≡_, refl, ap, _∙_}
+use mathlib.Core.Bool.{true, false, _||_}
 use mathlib.Core.List.{List, [], _∷_, _++_, append-assoc}
 use Prim.Native.Nat.{ℕ, _+_, _*_, _≤_, _<_}
 use native.Mathlib.Numerals.{add-one}
@@ -9,7 +9,7 @@ use lib.Dec.{eqb}
 use lib.ListN.{length, drop, getD, length-append, drop-of-length-le}
 use lib.Seq.{drop-cons}
 use borrow.Author.Tests.{eq-eqb, ne-eqb, le-leb, lt-leb}
-use Rattle.choice.specs.Pick.{pick}
+use Rattle.choice.specs.Pick.{pick, pick-either, pick-neither}
 use Rattle.store.specs.Room.{over}
 use Rattle.kiss_escape.specs.declared.Escaped.{Escaped}
 use Rattle.kiss_escape.specs.declared.Escaped.the-variants.{Wrote, NoRoom}
@@ -32,22 +32,12 @@ escByte-other b f g = rw (ne-eqb b FEND f, ne-eqb b FESC g)
 
 -- by one test for both
 escByte-special : (b : ℕ) {r : ℕ} → (eqb b FEND || eqb b FESC) ≡ true → r ≡ pick (eqb b FEND) TFEND TFESC → escByte b ≡ FESC ∷ r ∷ []
-unfolding escByte pick
-escByte-special b h e = rw e (by (eqb b FEND) (eqb b FESC) h)
-  where
-    by : (p q : Bool) → (p || q) ≡ true → pick p (FESC ∷ TFEND ∷ []) (pick q (FESC ∷ TFESC ∷ []) (b ∷ [])) ≡ FESC ∷ pick p TFEND TFESC ∷ []
-    by true q k = refl
-    by false true k = refl
-    by false false k = absurd (false≢true k)
+unfolding escByte
+escByte-special b h e = rw e (pick-either (λ (r : ℕ). FESC ∷ r ∷ []) (eqb b FEND) (eqb b FESC) TFEND TFESC (b ∷ []) h)
 
 escByte-plain : (b : ℕ) → (eqb b FEND || eqb b FESC) ≡ false → escByte b ≡ b ∷ []
-unfolding escByte pick
-escByte-plain b h = by (eqb b FEND) (eqb b FESC) h
-  where
-    by : (p q : Bool) → (p || q) ≡ false → pick p (FESC ∷ TFEND ∷ []) (pick q (FESC ∷ TFESC ∷ []) (b ∷ [])) ≡ b ∷ []
-    by true q k = absurd (false≢true (sym k))
-    by false true k = absurd (false≢true (sym k))
-    by false false k = refl
+unfolding escByte
+escByte-plain b h = pick-neither (eqb b FEND) (eqb b FESC) _ _ (b ∷ []) h
 
 escByte-length : (b : ℕ) → Kind b → (1 ≤ length (escByte b)) × (length (escByte b) ≤ 2)
 escByte-length b (fend e) = rw (escByte-fend b e) (omega arith)
@@ -72,15 +62,6 @@ module _ (s : List ℕ) (i : ℕ) (h : i < length s) where
   esc-at : esc (drop i s) ≡ escByte (getD s i 0) ++ esc (drop (i + 1) s)
   unfolding esc
   esc-at = rw (add-one, drop-cons s i 0)
-
-  pub esc-at-fend : getD s i 0 ≡ FEND → esc (drop i s) ≡ FESC ∷ TFEND ∷ esc (drop (i + 1) s)
-  esc-at-fend e = rw (esc-at, escByte-fend _ e)
-
-  pub esc-at-fesc : getD s i 0 ≡ FESC → esc (drop i s) ≡ FESC ∷ TFESC ∷ esc (drop (i + 1) s)
-  esc-at-fesc e = rw (esc-at, escByte-fesc _ e)
-
-  pub esc-at-other : (getD s i 0 ≡ FEND → ⊥) → (getD s i 0 ≡ FESC → ⊥) → esc (drop i s) ≡ getD s i 0 ∷ esc (drop (i + 1) s)
-  esc-at-other f g = rw (esc-at, escByte-other _ f g)
 
   pub esc-at-special : {r : ℕ} → (eqb (getD s i 0) FEND || eqb (getD s i 0) FESC) ≡ true → r ≡ pick (eqb (getD s i 0) FEND) TFEND TFESC
       → esc (drop i s) ≡ FESC ∷ r ∷ esc (drop (i + 1) s)

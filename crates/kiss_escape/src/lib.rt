@@ -51,9 +51,7 @@ pub fn escaped_len(src: &[u8]) -> usize
     while i < src.len() {
         let b = src[i];
         i += 1;
-        if b == FEND {
-            n += 2;
-        } else if b == FESC {
+        if (b == FEND) | (b == FESC) {
             n += 2;
         } else {
             n += 1;

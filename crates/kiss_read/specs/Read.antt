@@ -13,7 +13,7 @@ use Rattle.kiss_read.specs.declared.CommandRead.the-variants.{Command, M
 use Rattle.kiss_read.specs.declared.Decoded.{Decoded}
 use Rattle.kiss_read.specs.declared.Decoded.the-variants.{Payload, MalformedKissFrame as NoPayload}
 use Rattle.kiss_escape.specs.Unescape.{unescaped}
-use Rattle.kiss_read.specs.Scan.{stretch, afterFends}
+use Rattle.kiss_fend.specs.Scan.{stretch, afterFends}
 
 -- 0 data, 1 TxDelay, 2 P, 5 FullDuplex
 abbrev pub commandNumber : KissCommand → ℕ

@@ -1,10 +1,8 @@
 // Port, command and payload of a KISS frame, as m17core's kiss.rs reads them. A frame is any slice: only its own bytes are looked at.
-use blocks::load16;
-use blocks::none_of;
-use kiss_escape::FEND;
+use kiss_fend::leading_fends;
+use kiss_fend::to_fend;
 use kiss_unescape::unescape;
 ghost use mathlib.Core.Path.{_≡_};
-ghost use Rattle.kiss_read.specs.Scan.{isFend, notFend, runOf};
 ghost use Rattle.kiss_read.specs.Read.{commandNumber, portRead, commandFor, commandRead, decoded};
 
 pub enum KissCommand {
@@ -94,40 +92,4 @@ pub fn decode_payload(frame: &[u8], out: &mut [u8]) -> Decoded
     }
     let end = start + len;
     Decoded::Payload(unescape(&frame[start..end], out))
-}
-
-// How many FENDs stand at the front.
-pub fn leading_fends(s: &[u8]) -> usize
-    ensures { λ r. ⌜ r ≡ runOf isFend (now (s .entry)) ⌝ }
-{
-    let mut i = 0;
-    while i < s.len() {
-        if s[i] != FEND {
-            return i;
-        }
-        i += 1;
-    }
-    i
-}
-
-// How many bytes stand before the first FEND, all of them where there is none. Blocks without one are passed sixteen bytes at a time.
-pub fn to_fend(s: &[u8]) -> usize
-    ensures { λ r. ⌜ r ≡ runOf notFend (now (s .entry)) ⌝ }
-{
-    let mut i = 0;
-    while 16 <= s.len() - i {
-        let block = load16(s, i);
-        if none_of(block, FEND) {
-            i += 16;
-        } else {
-            break;
-        }
-    }
-    while i < s.len() {
-        if s[i] == FEND {
-            return i;
-        }
-        i += 1;
-    }
-    i
 }

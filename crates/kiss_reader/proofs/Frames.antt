@@ -11,8 +11,8 @@ use borrow.Author.Tests.{le-leb, lt-leb, ne-eqb}
 use Rattle.choice.specs.Pick.{pick, and}
 use Rattle.kiss_escape.specs.Escape.{FEND, esc}
 use Rattle.kiss_escape.proofs.Kept.{escaped-has-no-fend}
-use Rattle.kiss_read.specs.Scan.{isFend, stretch}
-use Rattle.kiss_read.proofs.Scans.{stretch-clear, stretch-closed}
+use Rattle.kiss_fend.specs.Scan.{isFend, stretch}
+use Rattle.kiss_fend.proofs.Scans.{stretch-clear, stretch-closed}
 use Rattle.kiss_frame.specs.Frame.{frame}
 use Rattle.kiss_build.specs.Build.{Building, portOf, commandOf, contentOf, headerOf, frameOf}
 use Rattle.kiss_build.specs.Promises.{Accepted}

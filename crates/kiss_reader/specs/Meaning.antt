@@ -6,7 +6,7 @@ use lib.Dec.{leb}
 use lib.ListN.{length}
 use Rattle.choice.specs.Pick.{pick, and}
 use Rattle.kiss_escape.specs.Escape.{FEND}
-use Rattle.kiss_read.specs.Scan.{isFend, stretch}
+use Rattle.kiss_fend.specs.Scan.{isFend, stretch}
 
 -- a frame is a stretch between two FENDs
 abbrev pub enclosed : List ℕ → List ℕ

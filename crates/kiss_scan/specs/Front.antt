@@ -6,7 +6,7 @@ use mathlib.Core.List.{List, []}
 use lib.ListN.{drop, getD}
 use Rattle.choice.specs.Pick.{and}
 use Rattle.kiss_escape.specs.Escape.{FEND}
-use Rattle.kiss_read.specs.Scan.{isFend, notFend, stretch}
+use Rattle.kiss_fend.specs.Scan.{isFend, notFend, stretch}
 use Rattle.kiss_reader.specs.Reader.{isSome}
 
 -- a frame stands first: a FEND, another byte, and a FEND behind it

@@ -3,12 +3,6 @@ ghost use mathlib.Core.Path.{_≡_};
 ghost use Prim.Native.Nat.{_%_};
 ghost use Rattle.lsf_layout.specs.Bits.{bitsAt, withBitsAt, modeBits, dataTypeBits, encryptionBits, channelBits};
 
-pub fn mode_bits(t: u16) -> u16
-    ensures { λ r. ⌜ r ≡ bitsAt modeBits t ⌝ }
-{
-    t % 2
-}
-
 pub fn data_type_bits(t: u16) -> u16
     ensures { λ r. ⌜ r ≡ bitsAt dataTypeBits t ⌝ }
 {

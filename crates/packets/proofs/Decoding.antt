@@ -6,7 +6,7 @@ use mathlib.Core.Option.{Option, none, some}
 use native.Mathlib.Omega.{arith}
 use lib.ListN.{length}
 use Rattle.kiss_escape.proofs.Kept.{unescape-stays-in-room}
-use Rattle.kiss_read.specs.Scan.{stretch, afterFends}
+use Rattle.kiss_fend.specs.Scan.{stretch, afterFends}
 use Rattle.kiss_read.specs.Read.{contentIn, payloadAt, decoded}
 use Rattle.packets.specs.Inside.{countOf}
 

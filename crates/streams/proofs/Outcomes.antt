@@ -13,7 +13,7 @@ use Rattle.crc.specs.Crc.{crcOf}
 use Rattle.kiss_escape.proofs.Unescaped.{room-length}
 use Rattle.kiss_read.specs.declared.Decoded.{Decoded}
 use Rattle.kiss_read.specs.declared.Decoded.the-variants.{Payload, MalformedKissFrame as NoPayload}
-use Rattle.kiss_read.specs.Scan.{stretch, afterFends}
+use Rattle.kiss_fend.specs.Scan.{stretch, afterFends}
 use Rattle.kiss_read.specs.Read.{contentIn, payloadAt, decoded}
 use Rattle.kiss_stream.specs.Stream.{streamOf}
 use Rattle.streams.specs.declared.StreamQueue.{StreamQueue}

@@ -1,4 +1,4 @@
--- `kiss_read::leading_fends` meets its contract. The invariant: the count so far and that of what is left make the count of all. Assumes nothing.
+-- `kiss_fend::leading_fends` meets its contract. The invariant: the count so far and that of what is left make the count of all. Assumes nothing.
 use Prim.Native.Nat.{_+_, _-_, _≤_}
 use mathlib.Core.Path.{_≡_}
 use native.Mathlib.Omega.{arith}
@@ -6,10 +6,10 @@ use borrow.Author.Needs.{needs}
 use borrow.Author.Tests.{eq-eqb, ne-eqb}
 use lib.ListN.{length, drop, getD}
 use Rattle.kiss_escape.specs.Escape.{FEND}
-use Rattle.kiss_read.specs.Scan.{isFend, runOf}
-use Rattle.kiss_read.proofs.Scans.{run-on, run-stops, run-ends}
-use Rattle.kiss_read.proofs.leading_fends.Statement.{statement}
-use Rattle.kiss_read.proofs.leading_fends.Tie as tie
+use Rattle.kiss_fend.specs.Scan.{isFend, runOf}
+use Rattle.kiss_fend.proofs.Scans.{run-on, run-stops, run-ends}
+use Rattle.kiss_fend.proofs.leading_fends.Statement.{statement}
+use Rattle.kiss_fend.proofs.leading_fends.Tie as tie
 
 abbrev Inv-loop : tie.InvT-loop
 Inv-loop s i₀ i = (i ≤ length s) × (i + runOf isFend (drop i s) ≡ runOf isFend s)

@@ -15,7 +15,7 @@ use Rattle.choice.specs.Pick.{pick}
 use Rattle.blocks.specs.Block.{loaded, without}
 use Rattle.blocks.proofs.Blocks.{loaded-length, loaded-split, without-first, without-rest}
 use Rattle.kiss_escape.specs.Escape.{FEND}
-use Rattle.kiss_read.specs.Scan.{isFend, notFend, stretch, afterFends, runOf}
+use Rattle.kiss_fend.specs.Scan.{isFend, notFend, stretch, afterFends, runOf}
 
 -- ---- one turn of a scan that is at index i of s
 

@@ -1,4 +1,4 @@
--- `kiss_read::to_fend` meets its contract. The invariant, of the blocks and of the bytes behind them: the count so far and that of what is left make the count of all.
+-- `kiss_fend::to_fend` meets its contract. The invariant, of the blocks and of the bytes behind them: the count so far and that of what is left make the count of all.
 -- Assumes nothing.
 use Prim.Native.Nat.{ℕ, _+_, _-_, _≤_}
 use mathlib.Core.Path.{_≡_, sym, _∙_}
@@ -6,10 +6,10 @@ use mathlib.Core.List.{List}
 use native.Mathlib.Omega.{arith}
 use borrow.Author.Needs.{needs}
 use lib.ListN.{length, drop, getD}
-use Rattle.kiss_read.specs.Scan.{notFend, runOf}
-use Rattle.kiss_read.proofs.Scans.{run-on, run-stops, run-ends, run-block, is-not, not-is}
-use Rattle.kiss_read.proofs.to_fend.Statement.{statement}
-use Rattle.kiss_read.proofs.to_fend.Tie as tie
+use Rattle.kiss_fend.specs.Scan.{notFend, runOf}
+use Rattle.kiss_fend.proofs.Scans.{run-on, run-stops, run-ends, run-block, is-not, not-is}
+use Rattle.kiss_fend.proofs.to_fend.Statement.{statement}
+use Rattle.kiss_fend.proofs.to_fend.Tie as tie
 
 abbrev Counted : List ℕ → ℕ → Type 0
 Counted s i = (i ≤ length s) × (i + runOf notFend (drop i s) ≡ runOf notFend s)
