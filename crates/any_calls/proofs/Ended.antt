@@ -25,7 +25,7 @@ use Rattle.tnc_modulator.proofs.Outcomes.{Passed, none-waits, held-back, keyed-
 use Rattle.tnc_core.specs.declared.Tnc.{Tnc}
 use Rattle.tnc_transmit.specs.declared.TncTx.{TncTx}
 use Rattle.tnc_transmit.specs.Calls.{putGiven}
-use Rattle.any_calls.specs.Calls.{World, Call, writeKiss, readKiss, handleLsf, handlePacket, handleStream, setDataCarrierDetect, setNow, setTxEndTime, ptt, readTxFrame, gives, after, run}
+use Rattle.any_calls.specs.Calls.{World, Call, writeKiss, readKiss, handleLsf, handlePacket, handleStream, setDataCarrierDetect, setNow, setTxEndTime, ptt, readTxFrame, after, run}
 use Rattle.any_calls.specs.Promises.{AllTyped, Sound}
 use Rattle.any_calls.specs.Queues.{inStreams, readIn, overAll}
 use Rattle.any_calls.specs.QueueRule.{Ends}

@@ -7,7 +7,7 @@ use kiss_escape::FEND;
 use tnc_core::Tnc;
 ghost use mathlib.Core.Path.{_≡_};
 ghost use Prim.Native.Nat.{_≤_};
-ghost use lib.ListN.{length, take, drop};
+ghost use lib.ListN.{length, drop};
 ghost use Rattle.event_open.specs.Inside.{opened, isOpen, begins, keeps, keptRun, filledTo, stays, openRun};
 
 // The kind of an event that brings a byte from the host.

@@ -8,7 +8,7 @@ use link_numbers::escape_count;
 use link_numbers::next_count;
 use link_numbers::write_count;
 ghost use mathlib.Core.Path.{_≡_};
-ghost use Rattle.crc.specs.Crc.{crcOf, twoBytes};
+ghost use Rattle.crc.specs.Crc.{crcOf};
 ghost use Rattle.kiss_escape.specs.Escape.{escaped};
 ghost use Rattle.kiss_escape.specs.Unescape.{unescaped};
 ghost use Rattle.kiss_build.specs.Build.{fullPacket, built};

@@ -1,4 +1,5 @@
-// The runs of bits in an LSF's type field: each read from the type, and the type with another number there, of which only the run's own bits are taken.
+// The runs of bits in an LSF's type field: each read from the type but the mode, which `protocol` reads; and the type with another number there, of which only
+// the run's own bits are taken.
 ghost use mathlib.Core.Path.{_≡_};
 ghost use Prim.Native.Nat.{_%_};
 ghost use Rattle.lsf_layout.specs.Bits.{bitsAt, withBitsAt, modeBits, dataTypeBits, encryptionBits, channelBits};

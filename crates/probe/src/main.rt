@@ -8,7 +8,6 @@ use kiss_escape::Escaped;
 use kiss_frame::Built;
 use kiss_read::CommandRead;
 use kiss_read::Decoded;
-use kiss_read::KissCommand;
 use kiss_read::PortRead;
 use libc::STDIN_FILENO;
 use libc::STDOUT_FILENO;

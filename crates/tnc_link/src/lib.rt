@@ -12,7 +12,7 @@ use saved_state::value_of;
 use sending::Sending;
 use tnc_core::Tnc;
 ghost use mathlib.Core.Path.{_≡_};
-ghost use Rattle.tnc_link.specs.Saved.{newSaved, savedOf, restored, refusal, told, savedTurn, eventOn};
+ghost use Rattle.tnc_link.specs.Saved.{newSaved, savedOf, restored, told, savedTurn, eventOn};
 
 // The TNC and its channel. A state is its kind, 0 to 8 in the order of `state::State`, and its number, 0 where it has none.
 #[repr(C)]
