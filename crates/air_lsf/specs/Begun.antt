@@ -6,7 +6,7 @@ use Rattle.protocol.specs.Lsf.{fieldOf, modeBits}
 use Rattle.protocol.specs.Kinds.{modeOf}
 use Rattle.protocol.specs.declared.lsf.Mode.{Mode}
 use Rattle.protocol.specs.declared.lsf.Mode.the-variants.{Packet, Stream}
-use Rattle.kiss_build.specs.Build.{streamSetup}
+use Rattle.kiss_layout.specs.Build.{streamSetup}
 use Rattle.state.specs.declared.State.the-variants.{RxStream, RxPacket}
 use Rattle.radio.specs.declared.Radio.{Radio}
 use Rattle.radio.specs.declared.Heard.{Heard}

@@ -7,12 +7,12 @@ use mathlib.Core.List.{List, [], _∷_, _++_, append-nil, append-assoc}
 use native.Mathlib.Omega.{arith}
 use lib.Dec.{ltb, eqb}
 use Rattle.choice.specs.Pick.{pick}
-use Rattle.kiss_read.specs.declared.KissCommand.the-variants.{DataFrame, TxDelay, P, FullDuplex}
-use Rattle.kiss_read.specs.declared.PortRead.{PortRead}
-use Rattle.kiss_read.specs.declared.PortRead.the-variants.{Port, MalformedKissFrame as NoPort}
-use Rattle.kiss_read.specs.declared.CommandRead.{CommandRead}
-use Rattle.kiss_read.specs.declared.CommandRead.the-variants.{Command, MalformedKissFrame as NoCommand, UnsupportedKissCommand as NoSuch}
-use Rattle.kiss_read.specs.Read.{portRead, commandRead}
+use Rattle.kiss_layout.specs.declared.KissCommand.the-variants.{DataFrame, TxDelay, P, FullDuplex}
+use Rattle.kiss_layout.specs.declared.PortRead.{PortRead}
+use Rattle.kiss_layout.specs.declared.PortRead.the-variants.{Port, MalformedKissFrame as NoPort}
+use Rattle.kiss_layout.specs.declared.CommandRead.{CommandRead}
+use Rattle.kiss_layout.specs.declared.CommandRead.the-variants.{Command, MalformedKissFrame as NoCommand, UnsupportedKissCommand as NoSuch}
+use Rattle.kiss_layout.specs.Read.{portRead, commandRead}
 use Rattle.kiss_buffer.specs.declared.WriteAnswer.{WriteAnswer}
 use Rattle.kiss_buffer.specs.declared.WriteAnswer.the-variants.{Done, Full, WrongStore as NoRoom, OutOfBounds as NoState}
 use Rattle.kiss_buffer.specs.Calls.{writeNumber, written}

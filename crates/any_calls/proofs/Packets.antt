@@ -8,12 +8,12 @@ use lib.ListN.{length}
 use borrow.Author.Tests.{eq-eqb}
 use Rattle.choice.specs.Pick.{pick, and-fst}
 use Rattle.channel.specs.declared.Channel.{Channel}
-use Rattle.kiss_read.specs.declared.KissCommand.the-variants.{DataFrame, TxDelay, P, FullDuplex}
-use Rattle.kiss_read.specs.declared.PortRead.{PortRead}
-use Rattle.kiss_read.specs.declared.PortRead.the-variants.{Port, MalformedKissFrame as NoPort}
-use Rattle.kiss_read.specs.declared.CommandRead.{CommandRead}
-use Rattle.kiss_read.specs.declared.CommandRead.the-variants.{Command, MalformedKissFrame as NoCommand, UnsupportedKissCommand as NoSuch}
-use Rattle.kiss_read.specs.Read.{portRead, commandRead}
+use Rattle.kiss_layout.specs.declared.KissCommand.the-variants.{DataFrame, TxDelay, P, FullDuplex}
+use Rattle.kiss_layout.specs.declared.PortRead.{PortRead}
+use Rattle.kiss_layout.specs.declared.PortRead.the-variants.{Port, MalformedKissFrame as NoPort}
+use Rattle.kiss_layout.specs.declared.CommandRead.{CommandRead}
+use Rattle.kiss_layout.specs.declared.CommandRead.the-variants.{Command, MalformedKissFrame as NoCommand, UnsupportedKissCommand as NoSuch}
+use Rattle.kiss_layout.specs.Read.{portRead, commandRead}
 use Rattle.packets.specs.declared.PacketQueue.{PacketQueue}
 use Rattle.packets.specs.declared.PacketRead.{PacketRead}
 use Rattle.packets.specs.declared.ReadAnswer.{ReadAnswer}

@@ -5,7 +5,7 @@ use mathlib.Core.Path.{_≡_, refl, sym, ap, _∙_, subst}
 use mathlib.Core.List.{List, [], _++_, append-nil}
 use Rattle.choice.specs.Pick.{and-fst, and-snd}
 use Rattle.channel.specs.declared.Channel.{Channel}
-use Rattle.kiss_read.specs.Read.{portRead, commandRead}
+use Rattle.kiss_layout.specs.Read.{portRead, commandRead}
 use Rattle.protocol.specs.declared.StreamFrame.{StreamFrame}
 use Rattle.packets.specs.declared.PacketQueue.{PacketQueue}
 use Rattle.packets.specs.Queue.{readNext as nextPiece}

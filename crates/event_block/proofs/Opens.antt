@@ -11,7 +11,7 @@ use Rattle.choice.specs.Pick.{pick, pick-all, and, and-fst, and-snd, and-both, 
 use Rattle.store.specs.Room.{over}
 use Rattle.channel.specs.declared.Channel.{Channel}
 use Rattle.channel.specs.Access.{soundChannel}
-use Rattle.kiss_fend.specs.Scan.{notFend}
+use Rattle.kiss_layout.specs.Scan.{notFend}
 use Rattle.kiss_reader.specs.Reader.{Reader, STORE, flush, next, afterNext}
 use Rattle.kiss_buffer.specs.declared.WriteAnswer.the-variants.{Done}
 use Rattle.kiss_buffer.specs.declared.Written.{Written}

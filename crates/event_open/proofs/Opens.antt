@@ -9,9 +9,9 @@ use borrow.Author.Tests.{eq-eqb, ne-eqb, eqb-true}
 use lib.Dec.{eqb}
 use lib.ListN.{length, drop, getD}
 use Rattle.choice.specs.Pick.{pick, and-fst, and-snd, and-both, and-no, and-go}
-use Rattle.kiss_escape.specs.Escape.{FEND}
-use Rattle.kiss_fend.specs.Scan.{isFend, notFend, afterFends, runOf}
-use Rattle.kiss_fend.proofs.Scans.{stretch-none}
+use Rattle.kiss_layout.specs.Escape.{FEND}
+use Rattle.kiss_layout.specs.Scan.{isFend, notFend, afterFends, runOf}
+use Rattle.kiss_layout.proofs.Scans.{stretch-none}
 use Rattle.kiss_reader.specs.Meaning.{enclosed}
 use Rattle.kiss_reader.specs.Reader.{fromFend, settle, front}
 use Rattle.tnc_core.specs.declared.Tnc.{Tnc}

@@ -8,7 +8,7 @@ use lib.Seq.{sets}
 use Rattle.choice.specs.Pick.{pick, and}
 use Rattle.channel.specs.declared.Channel.{Channel}
 use Rattle.channel.specs.Access.{soundChannel}
-use Rattle.kiss_fend.specs.Scan.{isFend, notFend, runOf}
+use Rattle.kiss_layout.specs.Scan.{isFend, notFend, runOf}
 use Rattle.tnc_core.specs.declared.Tnc.{Tnc}
 use Rattle.tnc_core.specs.Tnc.{soundTnc}
 use Rattle.link_ready.specs.Ready.{linkFits}

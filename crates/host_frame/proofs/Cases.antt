@@ -6,9 +6,9 @@ use mathlib.Core.List.{List}
 use lib.ListN.{length}
 use borrow.Author.Tests.{eq-eqb, lt-ltb, le-ltb}
 use Rattle.choice.specs.Pick.{pick}
-use Rattle.kiss_read.specs.declared.PortRead.{PortRead}
-use Rattle.kiss_read.specs.declared.CommandRead.{CommandRead}
-use Rattle.kiss_read.specs.Read.{portRead, commandRead}
+use Rattle.kiss_layout.specs.declared.PortRead.{PortRead}
+use Rattle.kiss_layout.specs.declared.CommandRead.{CommandRead}
+use Rattle.kiss_layout.specs.Read.{portRead, commandRead}
 use Rattle.packets.specs.Queue.{STORE as PACKETS}
 use Rattle.streams.specs.Queue.{STORE as STREAMS}
 use Rattle.host_record.specs.declared.Host.{Host}

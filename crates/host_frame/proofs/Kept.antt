@@ -9,16 +9,16 @@ use lib.Dec.{eqb, ltb}
 use lib.ListN.{length, replicate}
 use borrow.Author.Tests.{lt-ltb, le-ltb}
 use Rattle.choice.specs.Pick.{pick, pick-all, pick-no, and-fst, and-snd, and-both}
-use Rattle.kiss_read.specs.declared.KissCommand.the-variants.{DataFrame, TxDelay, P, FullDuplex}
-use Rattle.kiss_read.specs.declared.PortRead.{PortRead}
-use Rattle.kiss_read.specs.declared.PortRead.the-variants.{Port, MalformedKissFrame as NoPort}
-use Rattle.kiss_read.specs.declared.CommandRead.{CommandRead}
-use Rattle.kiss_read.specs.declared.CommandRead.the-variants.{Command, MalformedKissFrame as NoCommand, UnsupportedKissCommand as NoSuch}
-use Rattle.kiss_read.specs.declared.Decoded.{Decoded}
-use Rattle.kiss_read.specs.Read.{portRead, commandRead}
-use Rattle.kiss_build.specs.Build.{Building, txDelay, fullDuplex, frameOf, refusal, contentOf, portOf, commandOf}
-use Rattle.kiss_build.specs.Promises.{Accepted}
-use Rattle.kiss_build.proofs.Kept.{built-reads-back}
+use Rattle.kiss_layout.specs.declared.KissCommand.the-variants.{DataFrame, TxDelay, P, FullDuplex}
+use Rattle.kiss_layout.specs.declared.PortRead.{PortRead}
+use Rattle.kiss_layout.specs.declared.PortRead.the-variants.{Port, MalformedKissFrame as NoPort}
+use Rattle.kiss_layout.specs.declared.CommandRead.{CommandRead}
+use Rattle.kiss_layout.specs.declared.CommandRead.the-variants.{Command, MalformedKissFrame as NoCommand, UnsupportedKissCommand as NoSuch}
+use Rattle.kiss_layout.specs.declared.Decoded.{Decoded}
+use Rattle.kiss_layout.specs.Read.{portRead, commandRead}
+use Rattle.kiss_layout.specs.Build.{Building, txDelay, fullDuplex, frameOf, refusal, contentOf, portOf, commandOf}
+use Rattle.kiss_layout.specs.Promises.{Accepted}
+use Rattle.kiss_layout.proofs.Kept.{built-reads-back}
 use Rattle.channel.specs.Access.{withDuplex, soundChannel, duplexSet}
 use Rattle.channel.proofs.Kept as channels
 use Rattle.packets.specs.Queue.{STORE as PACKETS}

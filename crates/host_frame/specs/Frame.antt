@@ -4,12 +4,12 @@ use mathlib.Core.List.{List}
 use lib.Dec.{ltb, eqb}
 use lib.ListN.{length}
 use Rattle.choice.specs.Pick.{pick}
-use Rattle.kiss_read.specs.declared.KissCommand.the-variants.{DataFrame, TxDelay, P, FullDuplex}
-use Rattle.kiss_read.specs.declared.PortRead.{PortRead}
-use Rattle.kiss_read.specs.declared.PortRead.the-variants.{Port, MalformedKissFrame as NoPort}
-use Rattle.kiss_read.specs.declared.CommandRead.{CommandRead}
-use Rattle.kiss_read.specs.declared.CommandRead.the-variants.{Command, MalformedKissFrame as NoCommand, UnsupportedKissCommand as NoSuch}
-use Rattle.kiss_read.specs.Read.{portRead, commandRead}
+use Rattle.kiss_layout.specs.declared.KissCommand.the-variants.{DataFrame, TxDelay, P, FullDuplex}
+use Rattle.kiss_layout.specs.declared.PortRead.{PortRead}
+use Rattle.kiss_layout.specs.declared.PortRead.the-variants.{Port, MalformedKissFrame as NoPort}
+use Rattle.kiss_layout.specs.declared.CommandRead.{CommandRead}
+use Rattle.kiss_layout.specs.declared.CommandRead.the-variants.{Command, MalformedKissFrame as NoCommand, UnsupportedKissCommand as NoSuch}
+use Rattle.kiss_layout.specs.Read.{portRead, commandRead}
 use Rattle.packets.specs.Queue.{STORE as PACKETS}
 use Rattle.streams.specs.Queue.{STORE as STREAMS}
 use Rattle.host_record.specs.declared.Host.{Host}

@@ -5,9 +5,9 @@ use mathlib.Core.Logic.{_≢_}
 use mathlib.Core.Path.{_≡_}
 use mathlib.Core.List.{List}
 use lib.ListN.{length}
-use Rattle.kiss_read.specs.declared.PortRead.the-variants.{Port}
-use Rattle.kiss_read.specs.Read.{portRead}
-use Rattle.kiss_build.specs.Build.{txDelay, fullDuplex, frameOf}
+use Rattle.kiss_layout.specs.declared.PortRead.the-variants.{Port}
+use Rattle.kiss_layout.specs.Read.{portRead}
+use Rattle.kiss_layout.specs.Build.{txDelay, fullDuplex, frameOf}
 use Rattle.packets.specs.Queue.{STORE as PACKETS}
 use Rattle.streams.specs.Queue.{STORE as STREAMS}
 use Rattle.channel.specs.Access.{withDuplex}

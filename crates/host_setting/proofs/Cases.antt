@@ -3,8 +3,8 @@ use Prim.Native.Nat.{ℕ}
 use mathlib.Core.Path.{_≡_, sym, ap, _∙_}
 use mathlib.Core.List.{List}
 use lib.ListN.{replicate}
-use Rattle.kiss_read.specs.declared.Decoded.{Decoded}
-use Rattle.kiss_read.specs.Read.{decoded}
+use Rattle.kiss_layout.specs.declared.Decoded.{Decoded}
+use Rattle.kiss_layout.specs.Read.{decoded}
 use Rattle.host_setting.specs.Setting.{settingFrom, settingIn}
 
 pub setting-as : (frame room : List ℕ) {k : Decoded} (v : Decoded) → (k, room) ≡ decoded frame (replicate 1 0) → k ≡ v → settingFrom v room ≡ settingIn frame

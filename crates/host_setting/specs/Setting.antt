@@ -5,9 +5,9 @@ use mathlib.Core.List.{List}
 use lib.Dec.{eqb}
 use lib.ListN.{getD, replicate}
 use Rattle.choice.specs.Pick.{pick}
-use Rattle.kiss_read.specs.declared.Decoded.{Decoded}
-use Rattle.kiss_read.specs.declared.Decoded.the-variants.{Payload, MalformedKissFrame as NoPayload}
-use Rattle.kiss_read.specs.Read.{decoded}
+use Rattle.kiss_layout.specs.declared.Decoded.{Decoded}
+use Rattle.kiss_layout.specs.declared.Decoded.the-variants.{Payload, MalformedKissFrame as NoPayload}
+use Rattle.kiss_layout.specs.Read.{decoded}
 use Rattle.channel.specs.declared.Channel.{Channel}
 use Rattle.channel.specs.Access.{duplexSet}
 use Rattle.host_record.specs.declared.Host.{Host}

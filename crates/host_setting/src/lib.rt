@@ -1,6 +1,6 @@
 // The settings that the TNC takes from the host: TxDelay and FullDuplex.
 use host_record::Host;
-use kiss_read::Decoded;
+use kiss_layout::Decoded;
 use kiss_read::decode_payload;
 ghost use mathlib.Core.Path.{_≡_};
 ghost use Rattle.host_setting.specs.Setting.{settingIn, delaySet, duplexOf};

@@ -9,9 +9,9 @@ use link_numbers::next_count;
 use link_numbers::write_count;
 ghost use mathlib.Core.Path.{_≡_};
 ghost use Rattle.crc.specs.Crc.{crcOf};
-ghost use Rattle.kiss_escape.specs.Escape.{escaped};
-ghost use Rattle.kiss_escape.specs.Unescape.{unescaped};
-ghost use Rattle.kiss_build.specs.Build.{fullPacket, built};
+ghost use Rattle.kiss_layout.specs.Escape.{escaped};
+ghost use Rattle.kiss_layout.specs.Unescape.{unescaped};
+ghost use Rattle.kiss_layout.specs.Build.{fullPacket, built};
 ghost use Rattle.kiss_buffer.specs.Calls.{written, nextFrame};
 ghost use Rattle.link_numbers.specs.Numbers.{countedEscape, countedBuild, countedWrite, countedNext};
 

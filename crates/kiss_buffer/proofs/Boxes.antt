@@ -11,7 +11,7 @@ use lib.Seq.{take-append-seam}
 use borrow.Author.Tests.{eq-eqb, eqb-true, le-leb}
 use Rattle.choice.specs.Pick.{pick, and}
 use Rattle.store.specs.Room.{over}
-use Rattle.kiss_fend.specs.Scan.{stretch}
+use Rattle.kiss_layout.specs.Scan.{stretch}
 use Rattle.kiss_buffer.specs.declared.WriteAnswer.the-variants.{Done, Full, WrongStore, OutOfBounds}
 use Rattle.kiss_buffer.specs.declared.Written.{Written}
 use Rattle.kiss_buffer.specs.declared.NextAnswer.the-variants.{Frame, Nothing}

@@ -12,8 +12,8 @@ use lib.Seq.{take-at, take-take, take-all, drop-append-add, drop-drop}
 use borrow.Author.Tests.{eq-eqb, ne-eqb, le-leb, lt-leb, leb-true, eqb-true}
 use Rattle.choice.specs.Pick.{pick, and, and-fst, and-snd}
 use Rattle.store.specs.Room.{over}
-use Rattle.kiss_escape.specs.Escape.{FEND}
-use Rattle.kiss_fend.specs.Scan.{stretch}
+use Rattle.kiss_layout.specs.Escape.{FEND}
+use Rattle.kiss_layout.specs.Scan.{stretch}
 use Rattle.kiss_buffer.specs.declared.KissBuffer.{KissBuffer}
 use Rattle.kiss_buffer.specs.declared.WriteAnswer.the-variants.{Done, Full, WrongStore, OutOfBounds}
 use Rattle.kiss_buffer.specs.declared.NextAnswer.the-variants.{Frame, Nothing, WrongStore as NoStore, OutOfBounds as NoState}

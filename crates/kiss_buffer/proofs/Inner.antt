@@ -10,8 +10,8 @@ use lib.ListN.{length, take, drop, getD, length-append, length-drop, length-take
 use lib.Seq.{sets, sets-eq, take-nil, drop-drop}
 use borrow.Author.Tests.{ltb-true, ltb-false}
 use Rattle.store.specs.Room.{over}
-use Rattle.kiss_escape.specs.Escape.{FEND}
-use Rattle.kiss_fend.specs.Scan.{notFend, runOf}
+use Rattle.kiss_layout.specs.Escape.{FEND}
+use Rattle.kiss_layout.specs.Scan.{notFend, runOf}
 use Rattle.kiss_reader.specs.Reader.{settle, front}
 use Rattle.kiss_reader.specs.Inside.{settleAt}
 use Rattle.kiss_reader.proofs.Indices.{settle-at, settle-within, front-found, front-none}

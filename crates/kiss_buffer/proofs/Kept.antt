@@ -8,8 +8,8 @@ use mathlib.Core.List.{List}
 use lib.Dec.{eqb}
 use lib.ListN.{length}
 use Rattle.choice.specs.Pick.{pick}
-use Rattle.kiss_build.specs.Build.{Building}
-use Rattle.kiss_build.proofs.Kept.{built-reads-back}
+use Rattle.kiss_layout.specs.Build.{Building}
+use Rattle.kiss_layout.proofs.Kept.{built-reads-back}
 use Rattle.kiss_buffer.specs.declared.WriteAnswer.the-variants.{Done, Full, WrongStore, OutOfBounds}
 use Rattle.kiss_buffer.specs.declared.Written.{Written}
 use Rattle.kiss_buffer.specs.declared.NextAnswer.the-variants.{WrongStore as WrongStore′, OutOfBounds as OutOfBounds′}

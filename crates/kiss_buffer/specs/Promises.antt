@@ -5,9 +5,9 @@ use mathlib.Core.Logic.{_≢_}
 use mathlib.Core.Path.{_≡_}
 use mathlib.Core.List.{List, [], _∷_, _++_, map}
 use lib.ListN.{length, take, drop}
-use Rattle.kiss_escape.specs.Escape.{FEND}
-use Rattle.kiss_build.specs.Build.{Building, portOf, commandOf, contentOf, frameOf}
-use Rattle.kiss_build.specs.Promises.{ReadsAs}
+use Rattle.kiss_layout.specs.Escape.{FEND}
+use Rattle.kiss_layout.specs.Build.{Building, portOf, commandOf, contentOf, frameOf}
+use Rattle.kiss_layout.specs.Promises.{ReadsAs}
 use Rattle.kiss_buffer.specs.declared.KissBuffer.{KissBuffer}
 use Rattle.kiss_buffer.specs.declared.WriteAnswer.the-variants.{Done}
 use Rattle.kiss_buffer.specs.declared.NextAnswer.the-variants.{Frame, Nothing}

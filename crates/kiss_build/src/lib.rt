@@ -1,10 +1,10 @@
 // The builders of KISS frames that carry packets and streams, as m17core's kiss.rs has them. Each writes a frame at the start of a room that it is lent.
-use kiss_frame::Built;
 use kiss_frame::put_frame;
+use kiss_layout::Built;
 use kiss_stream::checked_content;
 use protocol::StreamFrame;
 ghost use mathlib.Core.Path.{_≡_};
-ghost use Rattle.kiss_build.specs.Build.{built, basicPacket, fullPacket, streamSetup, streamData};
+ghost use Rattle.kiss_layout.specs.Build.{built, basicPacket, fullPacket, streamSetup, streamData};
 
 pub const PORT_PACKET_BASIC: u8 = 0;
 

@@ -1,6 +1,1 @@
-pub mod Bytes
-pub mod Escapes
 pub mod Plain
-pub mod Codes
-pub mod Unescaped
-pub mod Kept

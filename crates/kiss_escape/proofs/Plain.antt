@@ -9,8 +9,8 @@ use lib.Seq.{sets}
 use Rattle.blocks.specs.Block.{loaded, stored, without}
 use Rattle.blocks.proofs.Blocks.{loaded-length, loaded-split, stored-in, without-first, without-rest}
 use Rattle.store.proofs.Runs.{sets-append}
-use Rattle.kiss_escape.specs.Escape.{FEND, FESC, esc}
-use Rattle.kiss_escape.proofs.Escapes.{escByte-other}
+use Rattle.kiss_layout.specs.Escape.{FEND, FESC, esc}
+use Rattle.kiss_layout.proofs.Escapes.{escByte-other}
 
 esc-plain : (t s : List ℕ) → without FEND t ≡ true → without FESC t ≡ true → esc (t ++ s) ≡ t ++ esc s
 unfolding esc

@@ -1,7 +1,12 @@
-// The special bytes of KISS and escaping, as m17core's kiss.rs has them: FEND and FESC never stand in a frame's content as themselves.
+// Escaping, as m17core's kiss.rs has it: FEND and FESC never stand in a frame's content as themselves.
 use blocks::load16;
 use blocks::none_of;
 use blocks::store16;
+use kiss_layout::Escaped;
+use kiss_layout::FEND;
+use kiss_layout::FESC;
+use kiss_layout::TFEND;
+use kiss_layout::TFESC;
 ghost use mathlib.Core.Path.{_≡_};
 ghost use Prim.Native.Nat.{_+_, _≤_};
 ghost use lib.Dec.{eqb};
@@ -9,21 +14,7 @@ ghost use lib.ListN.{length, drop};
 ghost use lib.Seq.{sets};
 ghost use Rattle.choice.specs.Pick.{pick};
 ghost use Rattle.store.specs.Room.{over};
-ghost use Rattle.kiss_escape.specs.Escape.{FEND, TFEND, TFESC, esc, escaped};
-
-pub const FEND: u8 = 0xC0;
-
-pub const FESC: u8 = 0xDB;
-
-pub const TFEND: u8 = 0xDC;
-
-pub const TFESC: u8 = 0xDD;
-
-// What `escape` answers: how many bytes it wrote, or that they do not fit.
-pub enum Escaped {
-    Wrote(usize),
-    NoRoom,
-}
+ghost use Rattle.kiss_layout.specs.Escape.{FEND, TFEND, TFESC, esc, escaped};
 
 // Writes src, escaped, at the start of dst. Where it does not fit, dst is left as it is.
 pub fn escape(src: &[u8], dst: &mut [u8]) -> Escaped

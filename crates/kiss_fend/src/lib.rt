@@ -1,9 +1,9 @@
 // The scans for FEND that every reader of KISS bytes goes by.
 use blocks::load16;
 use blocks::none_of;
-use kiss_escape::FEND;
+use kiss_layout::FEND;
 ghost use mathlib.Core.Path.{_≡_};
-ghost use Rattle.kiss_fend.specs.Scan.{isFend, notFend, runOf};
+ghost use Rattle.kiss_layout.specs.Scan.{isFend, notFend, runOf};
 
 // How many FENDs stand at the front.
 pub fn leading_fends(s: &[u8]) -> usize

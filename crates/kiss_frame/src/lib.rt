@@ -1,25 +1,17 @@
 // One frame of KISS, as m17core's kiss.rs builds it: a header and a content, escaped, between two FEND. Each builder goes through here.
-use kiss_escape::Escaped;
-use kiss_escape::FEND;
 use kiss_escape::escape;
 use kiss_escape::escaped_len;
+use kiss_layout::Built;
+use kiss_layout::Escaped;
+use kiss_layout::FEND;
 ghost use mathlib.Core.Path.{_≡_};
 ghost use mathlib.Core.List.{_++_};
 ghost use Prim.Native.Nat.{_+_, _≤_};
 ghost use lib.Dec.{leb};
 ghost use lib.ListN.{length};
 ghost use lib.Seq.{sets};
-ghost use Rattle.kiss_escape.specs.Escape.{esc};
-ghost use Rattle.kiss_frame.specs.Frame.{frame, putFrame};
-
-// What a builder answers: the length of the frame that it wrote, or why it wrote none.
-pub enum Built {
-    Frame(usize),
-    PayloadTooBig,
-    LsfWrongSize,
-    OutOfRange,
-    NoRoom,
-}
+ghost use Rattle.kiss_layout.specs.Escape.{esc};
+ghost use Rattle.kiss_layout.specs.Frame.{frame, putFrame};
 
 // Writes FEND, the header, first and second escaped, FEND at the start of room. Where they do not fit, room is left as it is.
 pub fn put_frame(header: u8, first: &[u8], second: &[u8], room: &mut [u8]) -> Built

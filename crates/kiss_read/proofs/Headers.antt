@@ -7,11 +7,11 @@ use native.Mathlib.Numerals.{add-one}
 use native.Mathlib.Omega.{arith}
 use lib.ListN.{length, take, drop, getD, length-drop, drop-of-length-le}
 use lib.Seq.{drop-cons, take-all}
-use Rattle.kiss_read.specs.declared.Decoded.the-variants.{Payload, MalformedKissFrame}
-use Rattle.kiss_escape.specs.Unescape.{unescaped}
-use Rattle.kiss_fend.specs.Scan.{isFend, notFend, stretch, afterFends, runOf}
-use Rattle.kiss_read.specs.Read.{contentIn, payloadAt, decoded}
-use Rattle.kiss_fend.proofs.Scans.{after-fends, stretch-found, stretch-none}
+use Rattle.kiss_layout.specs.declared.Decoded.the-variants.{Payload, MalformedKissFrame}
+use Rattle.kiss_layout.specs.Unescape.{unescaped}
+use Rattle.kiss_layout.specs.Scan.{isFend, notFend, stretch, afterFends, runOf}
+use Rattle.kiss_layout.specs.Read.{contentIn, payloadAt, decoded}
+use Rattle.kiss_layout.proofs.Scans.{after-fends, stretch-found, stretch-none}
 
 pub no-header : (f : List ℕ) {at : ℕ} → at ≡ runOf isFend f → length f ≤ at → afterFends f ≡ []
 no-header f {at} e h = after-fends f ∙ ap (λ (n : ℕ). drop n f) (sym e) ∙ drop-of-length-le f h

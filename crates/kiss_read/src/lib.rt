@@ -1,59 +1,37 @@
 // Port, command and payload of a KISS frame, as m17core's kiss.rs reads them. A frame is any slice: only its own bytes are looked at.
 use kiss_fend::leading_fends;
 use kiss_fend::to_fend;
+use kiss_layout::CommandRead;
+use kiss_layout::Decoded;
+use kiss_layout::KissCommand;
+use kiss_layout::PortRead;
 use kiss_unescape::unescape;
 ghost use mathlib.Core.Path.{_≡_};
-ghost use Rattle.kiss_read.specs.Read.{commandNumber, portRead, commandFor, commandRead, decoded};
+ghost use Rattle.kiss_layout.specs.Read.{commandNumber, portRead, commandFor, commandRead, decoded};
 
-pub enum KissCommand {
-    DataFrame,
-    TxDelay,
-    P,
-    FullDuplex,
-}
-
-impl KissCommand {
-    // A nibble as a command.
-    fn from_proto(value: u8) -> CommandRead
-        ensures { λ r. ⌜ r ≡ commandFor value ⌝ }
-    {
-        match value {
-            0 => CommandRead::Command(KissCommand::DataFrame),
-            1 => CommandRead::Command(KissCommand::TxDelay),
-            2 => CommandRead::Command(KissCommand::P),
-            5 => CommandRead::Command(KissCommand::FullDuplex),
-            3..=4 => CommandRead::UnsupportedKissCommand,
-            6..=255 => CommandRead::UnsupportedKissCommand,
-        }
-    }
-
-    pub fn proto_value(self) -> u8
-        ensures { λ r. ⌜ r ≡ commandNumber self ⌝ }
-    {
-        match self {
-            KissCommand::DataFrame => 0,
-            KissCommand::TxDelay => 1,
-            KissCommand::P => 2,
-            KissCommand::FullDuplex => 5,
-        }
+// A nibble as a command.
+fn from_proto(value: u8) -> CommandRead
+    ensures { λ r. ⌜ r ≡ commandFor value ⌝ }
+{
+    match value {
+        0 => CommandRead::Command(KissCommand::DataFrame),
+        1 => CommandRead::Command(KissCommand::TxDelay),
+        2 => CommandRead::Command(KissCommand::P),
+        5 => CommandRead::Command(KissCommand::FullDuplex),
+        3..=4 => CommandRead::UnsupportedKissCommand,
+        6..=255 => CommandRead::UnsupportedKissCommand,
     }
 }
 
-pub enum PortRead {
-    Port(u8),
-    MalformedKissFrame,
-}
-
-pub enum CommandRead {
-    Command(KissCommand),
-    MalformedKissFrame,
-    UnsupportedKissCommand,
-}
-
-// What `decode_payload` answers: how many bytes of the room it counted, or that the frame has no header or no end.
-pub enum Decoded {
-    Payload(usize),
-    MalformedKissFrame,
+pub fn proto_value(command: KissCommand) -> u8
+    ensures { λ r. ⌜ r ≡ commandNumber command ⌝ }
+{
+    match command {
+        KissCommand::DataFrame => 0,
+        KissCommand::TxDelay => 1,
+        KissCommand::P => 2,
+        KissCommand::FullDuplex => 5,
+    }
 }
 
 // The frame's port. Only 0, 1 and 2 mean something to the TNC.
@@ -74,7 +52,7 @@ pub fn command(frame: &[u8]) -> CommandRead
     if frame.len() <= at {
         return CommandRead::MalformedKissFrame;
     }
-    KissCommand::from_proto(frame[at] % 16)
+    from_proto(frame[at] % 16)
 }
 
 // Writes what stands between the header and the next FEND, unescaped, at the start of out.

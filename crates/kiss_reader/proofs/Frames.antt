@@ -9,15 +9,15 @@ use lib.Dec.{leb}
 use lib.ListN.{length}
 use borrow.Author.Tests.{le-leb, lt-leb, ne-eqb}
 use Rattle.choice.specs.Pick.{pick, and}
-use Rattle.kiss_escape.specs.Escape.{FEND, esc}
-use Rattle.kiss_escape.proofs.Kept.{escaped-has-no-fend}
-use Rattle.kiss_fend.specs.Scan.{isFend, stretch}
-use Rattle.kiss_fend.proofs.Scans.{stretch-clear, stretch-closed}
-use Rattle.kiss_frame.specs.Frame.{frame}
-use Rattle.kiss_build.specs.Build.{Building, portOf, commandOf, contentOf, headerOf, frameOf}
-use Rattle.kiss_build.specs.Promises.{Accepted}
-use Rattle.kiss_frame.proofs.Frames.{frame-length}
-use Rattle.kiss_build.proofs.Kept.{header-right, built-at-most-1713}
+use Rattle.kiss_layout.specs.Escape.{FEND, esc}
+use Rattle.kiss_layout.proofs.Escaping.{escaped-has-no-fend}
+use Rattle.kiss_layout.specs.Scan.{isFend, stretch}
+use Rattle.kiss_layout.proofs.Scans.{stretch-clear, stretch-closed}
+use Rattle.kiss_layout.specs.Frame.{frame}
+use Rattle.kiss_layout.specs.Build.{Building, portOf, commandOf, contentOf, headerOf, frameOf}
+use Rattle.kiss_layout.specs.Promises.{Accepted}
+use Rattle.kiss_layout.proofs.Frames.{frame-length}
+use Rattle.kiss_layout.proofs.Kept.{header-right, built-at-most-1713}
 use Rattle.kiss_reader.specs.Meaning.{LONGEST, enclosed, kept, opened, framesOf}
 use Rattle.kiss_reader.specs.Promises.{joined, Folds, ends, same, fold, AllAccepted, none-accepted, one-accepted}
 

@@ -12,9 +12,9 @@ use lib.ListN.{length, take, drop, getD, length-drop}
 use lib.Seq.{drop-drop, take-suc}
 use borrow.Author.Tests.{eqb-true, ltb-true, ltb-false, not-false}
 use Rattle.choice.specs.Pick.{pick}
-use Rattle.kiss_escape.specs.Escape.{FEND}
-use Rattle.kiss_fend.specs.Scan.{isFend, notFend, stretch, afterFends, runOf}
-use Rattle.kiss_fend.proofs.Scans.{run-within, stretch-found, stretch-none}
+use Rattle.kiss_layout.specs.Escape.{FEND}
+use Rattle.kiss_layout.specs.Scan.{isFend, notFend, stretch, afterFends, runOf}
+use Rattle.kiss_layout.proofs.Scans.{run-within, stretch-found, stretch-none}
 use Rattle.kiss_reader.specs.Meaning.{enclosed}
 use Rattle.kiss_reader.specs.Reader.{fromFend, lastFend, settle, front, isSome}
 use Rattle.kiss_reader.specs.Inside.{settleAt}

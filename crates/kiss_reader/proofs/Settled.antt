@@ -7,8 +7,8 @@ use native.Mathlib.Omega.{arith}
 use lib.ListN.{length, getD}
 use borrow.Author.Tests.{eqb-true}
 use Rattle.choice.specs.Pick.{pick}
-use Rattle.kiss_escape.specs.Escape.{FEND}
-use Rattle.kiss_fend.specs.Scan.{isFend, afterFends}
+use Rattle.kiss_layout.specs.Escape.{FEND}
+use Rattle.kiss_layout.specs.Scan.{isFend, afterFends}
 use Rattle.kiss_reader.specs.Reader.{fromFend, lastFend, settle}
 
 -- ---- shapes

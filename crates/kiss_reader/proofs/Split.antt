@@ -5,7 +5,7 @@ use mathlib.Core.Option.{Option, none, some, Option·map}
 use mathlib.Core.List.{List, [], _∷_, _++_}
 use Prim.Native.Nat.{ℕ}
 use Rattle.choice.specs.Pick.{pick}
-use Rattle.kiss_fend.specs.Scan.{isFend, stretch}
+use Rattle.kiss_layout.specs.Scan.{isFend, stretch}
 use Rattle.kiss_reader.specs.Meaning.{opened, framesOf, onto, split, splitFrames}
 
 -- the stretch before the first FEND is the first piece, unless it is the only one

@@ -9,8 +9,8 @@ use lib.ListN.{length, take, drop, length-append, length-take, length-drop, take
 use lib.Seq.{take-take}
 use borrow.Author.Tests.{eqb-true, leb-true, leb-false}
 use Rattle.choice.specs.Pick.{pick, and}
-use Rattle.kiss_escape.specs.Escape.{FEND}
-use Rattle.kiss_fend.specs.Scan.{isFend, stretch, afterFends}
+use Rattle.kiss_layout.specs.Escape.{FEND}
+use Rattle.kiss_layout.specs.Scan.{isFend, stretch, afterFends}
 use Rattle.kiss_reader.specs.Meaning.{enclosed, opened, framesOf}
 use Rattle.kiss_reader.specs.Reader.{Reader, newReader, STORE, fromFend, lastFend, settle, flush, front, isSome, next, afterNext, isFull, refused, keptBack, takes, afterWrite}
 use Rattle.kiss_reader.proofs.Settled.{Begun, none-begun, begins, begun, Settled, bare, alone, fronted, settled, settled-begun, settled-stays}

@@ -2,7 +2,7 @@
 use Prim.Native.Nat.{ℕ, _+_, _-_}
 use mathlib.Core.List.{List}
 use lib.ListN.{drop}
-use Rattle.kiss_fend.specs.Scan.{isFend, notFend, runOf}
+use Rattle.kiss_layout.specs.Scan.{isFend, notFend, runOf}
 
 -- where settled bytes begin: the last FEND of the first run
 abbrev pub settleAt : List ℕ → ℕ

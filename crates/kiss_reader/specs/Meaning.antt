@@ -5,8 +5,8 @@ use mathlib.Core.List.{List, [], _∷_, _++_}
 use lib.Dec.{leb}
 use lib.ListN.{length}
 use Rattle.choice.specs.Pick.{pick, and}
-use Rattle.kiss_escape.specs.Escape.{FEND}
-use Rattle.kiss_fend.specs.Scan.{isFend, stretch}
+use Rattle.kiss_layout.specs.Escape.{FEND}
+use Rattle.kiss_layout.specs.Scan.{isFend, stretch}
 
 -- a frame is a stretch between two FENDs
 abbrev pub enclosed : List ℕ → List ℕ

@@ -2,9 +2,9 @@
 use Prim.Native.Nat.{ℕ}
 use mathlib.Core.Path.{_≡_}
 use mathlib.Core.List.{List, [], _∷_, _++_, map}
-use Rattle.kiss_escape.specs.Escape.{FEND}
-use Rattle.kiss_build.specs.Build.{Building, frameOf}
-use Rattle.kiss_build.specs.Promises.{Accepted}
+use Rattle.kiss_layout.specs.Escape.{FEND}
+use Rattle.kiss_layout.specs.Build.{Building, frameOf}
+use Rattle.kiss_layout.specs.Promises.{Accepted}
 use Rattle.kiss_reader.specs.Meaning.{framesOf, split, splitFrames}
 
 -- the reader's meaning is document 01's: split at each FEND, drop what precedes the first, keep the stretches of 1 to 1,711 bytes

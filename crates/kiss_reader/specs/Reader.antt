@@ -6,7 +6,7 @@ use mathlib.Core.List.{List, [], _∷_, _++_}
 use lib.Dec.{leb}
 use lib.ListN.{length, take, drop}
 use Rattle.choice.specs.Pick.{pick, and}
-use Rattle.kiss_fend.specs.Scan.{isFend, stretch, afterFends}
+use Rattle.kiss_layout.specs.Scan.{isFend, stretch, afterFends}
 use Rattle.kiss_reader.specs.Meaning.{enclosed}
 
 -- the bytes held, first to last, and whether the frame at their front was handed out

@@ -11,9 +11,9 @@ use lib.ListN.{length, take, drop, getD, length-append, length-drop, length-take
 use lib.Seq.{take-all}
 use borrow.Author.Tests.{eq-eqb, ne-eqb}
 use Rattle.choice.specs.Pick.{and}
-use Rattle.kiss_escape.specs.Escape.{FEND}
-use Rattle.kiss_fend.specs.Scan.{isFend, notFend, stretch, runOf}
-use Rattle.kiss_fend.proofs.Scans.{run-within, stretch-found}
+use Rattle.kiss_layout.specs.Escape.{FEND}
+use Rattle.kiss_layout.specs.Scan.{isFend, notFend, stretch, runOf}
+use Rattle.kiss_layout.proofs.Scans.{run-within, stretch-found}
 use Rattle.kiss_reader.specs.Meaning.{enclosed}
 use Rattle.kiss_reader.specs.Reader.{front, isSome}
 use Rattle.kiss_reader.specs.Inside.{settleAt}

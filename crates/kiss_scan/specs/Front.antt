@@ -5,8 +5,8 @@ use mathlib.Core.Option.{Option, none, some}
 use mathlib.Core.List.{List, []}
 use lib.ListN.{drop, getD}
 use Rattle.choice.specs.Pick.{and}
-use Rattle.kiss_escape.specs.Escape.{FEND}
-use Rattle.kiss_fend.specs.Scan.{isFend, notFend, stretch}
+use Rattle.kiss_layout.specs.Escape.{FEND}
+use Rattle.kiss_layout.specs.Scan.{isFend, notFend, stretch}
 use Rattle.kiss_reader.specs.Reader.{isSome}
 
 -- a frame stands first: a FEND, another byte, and a FEND behind it

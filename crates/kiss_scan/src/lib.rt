@@ -1,7 +1,7 @@
 // The reader's scans, each over the bytes that count of its store: where they settle, and whether a whole frame stands first.
-use kiss_escape::FEND;
 use kiss_fend::leading_fends;
 use kiss_fend::to_fend;
+use kiss_layout::FEND;
 ghost use mathlib.Core.Path.{_≡_};
 ghost use lib.ListN.{length};
 ghost use Rattle.kiss_reader.specs.Reader.{settle, front, isSome};

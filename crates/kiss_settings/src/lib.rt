@@ -1,9 +1,10 @@
 // The builders of KISS frames that set a TNC's parameters, as m17core's kiss.rs has them. Each writes a frame of one byte at the start of a room that it is lent.
-use kiss_frame::Built;
 use kiss_frame::put_frame;
-use kiss_read::KissCommand;
+use kiss_layout::Built;
+use kiss_layout::KissCommand;
+use kiss_read::proto_value;
 ghost use mathlib.Core.Path.{_≡_};
-ghost use Rattle.kiss_build.specs.Build.{built, txDelay, persistence, fullDuplex};
+ghost use Rattle.kiss_layout.specs.Build.{built, txDelay, persistence, fullDuplex};
 ghost use Rattle.kiss_settings.specs.Setting.{setting};
 
 pub fn new_set_tx_delay(port: u8, units: u8, room: &mut [u8]) -> Built
@@ -34,5 +35,5 @@ fn put_setting(port: u8, command: KissCommand, value: u8, room: &mut [u8]) -> Bu
     if 15 < port {
         return Built::OutOfRange;
     }
-    put_frame(port * 16 + command.proto_value(), b"", &[value], room)
+    put_frame(port * 16 + proto_value(command), b"", &[value], room)
 }

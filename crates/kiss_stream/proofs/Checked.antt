@@ -7,7 +7,8 @@ use lib.Dec.{ltb}
 use Rattle.choice.specs.Pick.{pick}
 use Rattle.protocol.specs.declared.StreamFrame.{StreamFrame}
 use Rattle.kiss_stream.specs.declared.StreamContent.{StreamContent}
-use Rattle.kiss_stream.specs.Stream.{streamContent, outside, checkedContent}
+use Rattle.kiss_layout.specs.Stream.{streamContent}
+use Rattle.kiss_stream.specs.Checked.{outside, checkedContent}
 
 module _ {A : Type 0} (f : StreamFrame) (x y : A) where
   abbrev inside : StreamContent

@@ -1,2 +1,1 @@
-pub mod Streams
 pub mod Checked

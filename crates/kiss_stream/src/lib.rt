@@ -2,7 +2,8 @@
 use protocol::StreamFrame;
 ghost use mathlib.Core.Path.{_≡_};
 ghost use Prim.Native.Nat.{_≤_};
-ghost use Rattle.kiss_stream.specs.Stream.{endMark, numberedData, streamContent, checkedContent};
+ghost use Rattle.kiss_layout.specs.Stream.{endMark, numberedData, streamContent};
+ghost use Rattle.kiss_stream.specs.Checked.{checkedContent};
 
 // The 26 bytes are all zero unless the content is valid.
 pub struct StreamContent {

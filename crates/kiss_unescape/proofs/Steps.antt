@@ -12,9 +12,9 @@ use lib.Seq.{sets, drop-cons, set-out, set-getD}
 use Rattle.choice.specs.Pick.{pick}
 use Rattle.blocks.specs.Block.{loaded, stored, without}
 use Rattle.blocks.proofs.Blocks.{loaded-length, loaded-split, stored-in, without-first, without-rest}
-use Rattle.kiss_escape.specs.Escape.{FEND, FESC, TFEND, TFESC}
-use Rattle.kiss_escape.specs.Unescape.{Code, byte, as-found, afterFesc, codes, laid, lay, unescaped}
-use Rattle.kiss_escape.proofs.Codes.{afterFesc-known, afterFesc-other, codes-byte, codes-pair, codes-last}
+use Rattle.kiss_layout.specs.Escape.{FEND, FESC, TFEND, TFESC}
+use Rattle.kiss_layout.specs.Unescape.{Code, byte, as-found, afterFesc, codes, laid, lay, unescaped}
+use Rattle.kiss_layout.proofs.Codes.{afterFesc-known, afterFesc-other, codes-byte, codes-pair, codes-last}
 use Rattle.kiss_unescape.specs.Lays.{lays}
 
 -- ---- from index i of a content on

@@ -2,7 +2,7 @@
 use Prim.Native.Nat.{ℕ, suc}
 use mathlib.Core.List.{List, [], _∷_}
 use lib.ListN.{getD, set}
-use Rattle.kiss_escape.specs.Unescape.{Code, laid}
+use Rattle.kiss_layout.specs.Unescape.{Code, laid}
 
 abbrev pub lays : List ℕ → ℕ → List Code → List ℕ
 lays d j [] = d

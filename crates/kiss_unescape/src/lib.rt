@@ -2,17 +2,17 @@
 use blocks::load16;
 use blocks::none_of;
 use blocks::store16;
-use kiss_escape::FEND;
-use kiss_escape::FESC;
-use kiss_escape::TFEND;
-use kiss_escape::TFESC;
+use kiss_layout::FEND;
+use kiss_layout::FESC;
+use kiss_layout::TFEND;
+use kiss_layout::TFESC;
 ghost use mathlib.Core.Path.{_≡_};
 ghost use Prim.Native.Nat.{_+_, _≤_, min};
 ghost use lib.Dec.{eqb};
 ghost use lib.ListN.{length, drop};
 ghost use Rattle.choice.specs.Pick.{pick};
-ghost use Rattle.kiss_escape.specs.Escape.{FEND, FESC, TFEND};
-ghost use Rattle.kiss_escape.specs.Unescape.{codes, unescaped};
+ghost use Rattle.kiss_layout.specs.Escape.{FEND, FESC, TFEND};
+ghost use Rattle.kiss_layout.specs.Unescape.{codes, unescaped};
 ghost use Rattle.kiss_unescape.specs.Lays.{lays};
 
 // Writes the content src, unescaped, at the start of dst, as far as both go, and returns how many bytes of dst it counted.

@@ -1,10 +1,10 @@
 -- The answers of the calls that a host in C or Rust links, as document 01's numbers ("Answer numbers") with a count beside them. Assumes nothing.
 use Prim.Native.Nat.{ℕ}
 use mathlib.Core.List.{List}
-use Rattle.kiss_escape.specs.declared.Escaped.{Escaped}
-use Rattle.kiss_escape.specs.declared.Escaped.the-variants.{Wrote, NoRoom as NoRoomFor}
-use Rattle.kiss_frame.specs.declared.Built.{Built}
-use Rattle.kiss_frame.specs.declared.Built.the-variants.{Frame, PayloadTooBig, LsfWrongSize, OutOfRange, NoRoom}
+use Rattle.kiss_layout.specs.declared.Escaped.{Escaped}
+use Rattle.kiss_layout.specs.declared.Escaped.the-variants.{Wrote, NoRoom as NoRoomFor}
+use Rattle.kiss_layout.specs.declared.Built.{Built}
+use Rattle.kiss_layout.specs.declared.Built.the-variants.{Frame, PayloadTooBig, LsfWrongSize, OutOfRange, NoRoom}
 use Rattle.kiss_buffer.specs.declared.KissBuffer.{KissBuffer}
 use Rattle.kiss_buffer.specs.declared.Written.{Written}
 use Rattle.kiss_buffer.specs.declared.NextAnswer.{NextAnswer}

@@ -5,9 +5,9 @@ use mathlib.Core.Path.{_≡_, ap, _∙_}
 use mathlib.Core.List.{List}
 use borrow.Author.Tests.{le-leb, lt-leb}
 use Rattle.choice.specs.Pick.{pick}
-use Rattle.kiss_read.specs.declared.Decoded.{Decoded}
-use Rattle.kiss_read.specs.declared.Decoded.the-variants.{Payload}
-use Rattle.kiss_read.specs.Read.{decoded}
+use Rattle.kiss_layout.specs.declared.Decoded.{Decoded}
+use Rattle.kiss_layout.specs.declared.Decoded.the-variants.{Payload}
+use Rattle.kiss_layout.specs.Read.{decoded}
 use Rattle.packets.specs.Frames.{zeros}
 use Rattle.packets.specs.Queue.{malformed, overlong, fills, basicRoom, basic, madeBasic}
 use Rattle.packets.specs.Inside.{countOf}

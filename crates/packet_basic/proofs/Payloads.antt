@@ -4,10 +4,10 @@ use mathlib.Core.Path.{_≡_, refl, sym}
 use mathlib.Core.Bool.{true, false, false≢true}
 use mathlib.Core.List.{List, [], _∷_}
 use mathlib.Core.Option.{Option, none, some}
-use Rattle.kiss_read.specs.declared.Decoded.{Decoded}
-use Rattle.kiss_read.specs.declared.Decoded.the-variants.{Payload, MalformedKissFrame}
-use Rattle.kiss_fend.specs.Scan.{stretch, afterFends}
-use Rattle.kiss_read.specs.Read.{contentIn, payloadAt, decoded}
+use Rattle.kiss_layout.specs.declared.Decoded.{Decoded}
+use Rattle.kiss_layout.specs.declared.Decoded.the-variants.{Payload, MalformedKissFrame}
+use Rattle.kiss_layout.specs.Scan.{stretch, afterFends}
+use Rattle.kiss_layout.specs.Read.{contentIn, payloadAt, decoded}
 use Rattle.packets.specs.Inside.{countOf}
 use Rattle.packet_basic.specs.Inside.{isPayload}
 

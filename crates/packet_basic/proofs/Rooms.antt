@@ -15,8 +15,8 @@ use Rattle.store.proofs.Runs.{sets-append, put-all, put-front}
 use Rattle.crc.specs.Crc.{crcOf, twoBytes}
 use Rattle.protocol.specs.Lsf.{part}
 use Rattle.protocol.specs.Basic.{basicLsf}
-use Rattle.kiss_read.specs.declared.Decoded.{Decoded}
-use Rattle.kiss_read.specs.Read.{decoded}
+use Rattle.kiss_layout.specs.declared.Decoded.{Decoded}
+use Rattle.kiss_layout.specs.Read.{decoded}
 use Rattle.packets.specs.Frames.{zeros}
 use Rattle.packets.specs.Queue.{ROOM, RAW, basicRoom}
 use Rattle.packets.specs.Inside.{countOf}

@@ -7,9 +7,9 @@ use Rattle.store.specs.Room.{placed}
 use Rattle.crc.specs.Crc.{crcOf, twoBytes}
 use Rattle.protocol.specs.Lsf.{part}
 use Rattle.protocol.specs.Basic.{basicLsf}
-use Rattle.kiss_read.specs.declared.Decoded.{Decoded}
-use Rattle.kiss_read.specs.declared.Decoded.the-variants.{Payload, MalformedKissFrame}
-use Rattle.kiss_read.specs.Read.{decoded}
+use Rattle.kiss_layout.specs.declared.Decoded.{Decoded}
+use Rattle.kiss_layout.specs.declared.Decoded.the-variants.{Payload, MalformedKissFrame}
+use Rattle.kiss_layout.specs.Read.{decoded}
 use Rattle.packets.specs.Frames.{zeros}
 use Rattle.packets.specs.Queue.{RAW}
 use Rattle.packets.specs.Inside.{countOf}

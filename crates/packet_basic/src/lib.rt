@@ -1,5 +1,5 @@
 // The push of a data frame of port 0, behind `packets`, which has the record and the definitions: its content becomes a packet that waits.
-use kiss_read::Decoded;
+use kiss_layout::Decoded;
 use kiss_read::decode_payload;
 use packet_push::accepted;
 use packets::PacketQueue;
@@ -11,7 +11,7 @@ use protocol::LsfFrame;
 ghost use mathlib.Core.Path.{_≡_};
 ghost use Prim.Native.Nat.{_+_, _≤_};
 ghost use lib.ListN.{length};
-ghost use Rattle.kiss_read.specs.Read.{decoded};
+ghost use Rattle.kiss_layout.specs.Read.{decoded};
 ghost use Rattle.packets.specs.Frames.{zeros};
 ghost use Rattle.packets.specs.Queue.{ROOM, pushedBasic};
 ghost use Rattle.packet_basic.specs.Inside.{isPayload, decodedAt, sealedAt};

@@ -1,5 +1,5 @@
 // The push of a data frame of port 1, behind `packets`, which has the record and the definitions: its content becomes a packet that waits.
-use kiss_read::Decoded;
+use kiss_layout::Decoded;
 use kiss_read::decode_payload;
 use packet_push::accepted;
 use packets::PacketQueue;

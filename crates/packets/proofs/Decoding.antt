@@ -5,9 +5,9 @@ use mathlib.Core.List.{List, [], _∷_}
 use mathlib.Core.Option.{Option, none, some}
 use native.Mathlib.Omega.{arith}
 use lib.ListN.{length}
-use Rattle.kiss_escape.proofs.Kept.{unescape-stays-in-room}
-use Rattle.kiss_fend.specs.Scan.{stretch, afterFends}
-use Rattle.kiss_read.specs.Read.{contentIn, payloadAt, decoded}
+use Rattle.kiss_layout.proofs.Escaping.{unescape-stays-in-room}
+use Rattle.kiss_layout.specs.Scan.{stretch, afterFends}
+use Rattle.kiss_layout.specs.Read.{contentIn, payloadAt, decoded}
 use Rattle.packets.specs.Inside.{countOf}
 
 -- the room keeps its length, and the count stays within it

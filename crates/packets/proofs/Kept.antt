@@ -16,9 +16,9 @@ use Rattle.store.proofs.Places.{placed-length}
 use Rattle.crc.specs.Crc.{crcOf, twoBytes, sealed}
 use Rattle.protocol.specs.Lsf.{part}
 use Rattle.protocol.specs.Basic.{basicLsf}
-use Rattle.kiss_read.specs.declared.Decoded.{Decoded}
-use Rattle.kiss_read.specs.declared.Decoded.the-variants.{Payload, MalformedKissFrame as NoPayload}
-use Rattle.kiss_read.specs.Read.{decoded}
+use Rattle.kiss_layout.specs.declared.Decoded.{Decoded}
+use Rattle.kiss_layout.specs.declared.Decoded.the-variants.{Payload, MalformedKissFrame as NoPayload}
+use Rattle.kiss_layout.specs.Read.{decoded}
 use Rattle.packets.specs.declared.PacketQueue.{PacketQueue}
 use Rattle.packets.specs.declared.PushAnswer.the-variants.{Ignored, WrongStore, OutOfBounds}
 use Rattle.packets.specs.declared.Pushed.{Pushed}

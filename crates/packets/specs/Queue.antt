@@ -13,9 +13,9 @@ use Rattle.protocol.specs.Lsf.{part}
 use Rattle.protocol.specs.Basic.{basicLsf}
 use Rattle.protocol.specs.declared.PacketFrame.{PacketFrame}
 use Rattle.protocol.specs.declared.PacketFrameCounter.the-variants.{Frame}
-use Rattle.kiss_read.specs.declared.Decoded.{Decoded}
-use Rattle.kiss_read.specs.declared.Decoded.the-variants.{Payload, MalformedKissFrame as NoPayload}
-use Rattle.kiss_read.specs.Read.{decoded}
+use Rattle.kiss_layout.specs.declared.Decoded.{Decoded}
+use Rattle.kiss_layout.specs.declared.Decoded.the-variants.{Payload, MalformedKissFrame as NoPayload}
+use Rattle.kiss_layout.specs.Read.{decoded}
 use Rattle.packets.specs.declared.Place.{Place}
 use Rattle.packets.specs.declared.PacketQueue.{PacketQueue}
 use Rattle.packets.specs.declared.PushAnswer.{PushAnswer}

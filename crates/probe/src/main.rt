@@ -4,11 +4,11 @@
 use kiss_buffer::KissBuffer;
 use kiss_buffer::NextAnswer;
 use kiss_buffer::WriteAnswer;
-use kiss_escape::Escaped;
-use kiss_frame::Built;
-use kiss_read::CommandRead;
-use kiss_read::Decoded;
-use kiss_read::PortRead;
+use kiss_layout::Built;
+use kiss_layout::CommandRead;
+use kiss_layout::Decoded;
+use kiss_layout::Escaped;
+use kiss_layout::PortRead;
 use libc::STDIN_FILENO;
 use libc::STDOUT_FILENO;
 use lich::Assembly;
@@ -285,7 +285,7 @@ fn port(a: &[u8]) -> usize {
 
 fn command(a: &[u8]) -> usize {
     match kiss_read::command(a) {
-        CommandRead::Command(c) => c.proto_value() as usize,
+        CommandRead::Command(c) => kiss_read::proto_value(c) as usize,
         CommandRead::MalformedKissFrame => MALFORMED,
         CommandRead::UnsupportedKissCommand => UNSUPPORTED,
     }

@@ -6,8 +6,8 @@ use native.Mathlib.Omega.{arith}
 use lib.ListN.{length}
 use borrow.Author.Tests.{eq-eqb}
 use Rattle.choice.specs.Pick.{pick, and-both}
-use Rattle.kiss_build.specs.Build.{frameOf}
-use Rattle.kiss_build.proofs.Kept.{built-at-most-1713}
+use Rattle.kiss_layout.specs.Build.{frameOf}
+use Rattle.kiss_layout.proofs.Kept.{built-at-most-1713}
 use Rattle.radio.specs.declared.AirAnswer.{AirAnswer}
 use Rattle.radio.specs.declared.Heard.{Heard}
 use Rattle.radio.specs.declared.Hears.{Hears}

@@ -12,9 +12,9 @@ use Rattle.choice.specs.Pick.{pick-yes, pick-no, and-both}
 use Rattle.store.specs.Room.{over}
 use Rattle.store.proofs.Runs.{put-front}
 use Rattle.protocol.specs.declared.StreamFrame.{StreamFrame}
-use Rattle.kiss_build.specs.Build.{Building, fullPacket, streamSetup, streamData, refusal, frameOf}
-use Rattle.kiss_build.specs.Promises.{Accepted}
-use Rattle.kiss_build.proofs.Kept.{built-at-most-1713}
+use Rattle.kiss_layout.specs.Build.{Building, fullPacket, streamSetup, streamData, refusal, frameOf}
+use Rattle.kiss_layout.specs.Promises.{Accepted}
+use Rattle.kiss_layout.proofs.Kept.{built-at-most-1713}
 use Rattle.outgoing.specs.Message.{soundMessage, left}
 use Rattle.radio.specs.Radio.{MESSAGE}
 

@@ -4,8 +4,8 @@ use Prim.Native.Nat.{ℕ}
 use mathlib.Core.Bool.{true}
 use mathlib.Core.Path.{_≡_}
 use mathlib.Core.List.{List}
-use Rattle.kiss_build.specs.Build.{Building, frameOf}
-use Rattle.kiss_build.specs.Promises.{Accepted}
+use Rattle.kiss_layout.specs.Build.{Building, frameOf}
+use Rattle.kiss_layout.specs.Promises.{Accepted}
 use Rattle.outgoing.specs.Message.{left}
 use Rattle.state.specs.declared.State.{State}
 use Rattle.state.specs.State.{transmits, soundState}

@@ -6,7 +6,7 @@ use lib.Dec.{eqb}
 use lib.ListN.{length}
 use Rattle.choice.specs.Pick.{pick, and}
 use Rattle.store.specs.Room.{over}
-use Rattle.kiss_build.specs.Build.{Building, frameOf}
+use Rattle.kiss_layout.specs.Build.{Building, frameOf}
 use Rattle.outgoing.specs.Message.{soundMessage}
 use Rattle.state.specs.declared.State.{State}
 use Rattle.state.specs.State.{transmits, soundState}

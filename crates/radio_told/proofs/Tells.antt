@@ -4,10 +4,10 @@ use mathlib.Core.Path.{_≡_, ap, _∙_}
 use mathlib.Core.List.{List}
 use native.Mathlib.Omega.{arith}
 use lib.ListN.{length}
-use Rattle.kiss_frame.specs.declared.Built.{Built}
-use Rattle.kiss_build.specs.Build.{Building, built}
-use Rattle.kiss_build.specs.Promises.{Accepted}
-use Rattle.kiss_build.proofs.Kept.{accepted-is-built, built-at-most-1713}
+use Rattle.kiss_layout.specs.declared.Built.{Built}
+use Rattle.kiss_layout.specs.Build.{Building, built}
+use Rattle.kiss_layout.specs.Promises.{Accepted}
+use Rattle.kiss_layout.proofs.Kept.{accepted-is-built, built-at-most-1713}
 use Rattle.state.specs.declared.State.{State}
 use Rattle.radio.specs.declared.Heard.{Heard}
 use Rattle.radio.specs.Radio.{MESSAGE, toHost}

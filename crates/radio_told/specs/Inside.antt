@@ -1,6 +1,6 @@
 -- What `told` makes of a builder's answer. From no document: no promise rests on these. Assumes nothing.
-use Rattle.kiss_frame.specs.declared.Built.{Built}
-use Rattle.kiss_frame.specs.declared.Built.the-variants.{Frame, PayloadTooBig, LsfWrongSize, OutOfRange, NoRoom}
+use Rattle.kiss_layout.specs.declared.Built.{Built}
+use Rattle.kiss_layout.specs.declared.Built.the-variants.{Frame, PayloadTooBig, LsfWrongSize, OutOfRange, NoRoom}
 use Rattle.outgoing.specs.declared.Outgoing.{Outgoing}
 use Rattle.outgoing.specs.Message.{noMessage}
 use Rattle.state.specs.declared.State.{State}

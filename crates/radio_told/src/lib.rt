@@ -1,5 +1,5 @@
 // What the radio tells the host: the message that was built for it.
-use kiss_frame::Built;
+use kiss_layout::Built;
 use outgoing::Outgoing;
 use radio::AirAnswer;
 use radio::Heard;

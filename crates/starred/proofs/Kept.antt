@@ -2,11 +2,11 @@
 use mathlib.Core.Path.{refl}
 use Rattle.choice.specs.Pick.{pick, and}
 use Rattle.choice.specs.Cases.{allPass, same}
-use Rattle.kiss_escape.specs.Escape.{escByte, esc, escaped}
-use Rattle.kiss_escape.specs.Unescape.{codes, afterFesc, lay, unescaped}
-use Rattle.kiss_frame.specs.Frame.{frame, putFrame}
-use Rattle.kiss_build.specs.Build.{refusal, built}
-use Rattle.kiss_fend.specs.Scan.{stretch}
+use Rattle.kiss_layout.specs.Escape.{escByte, esc, escaped}
+use Rattle.kiss_layout.specs.Unescape.{codes, afterFesc, lay, unescaped}
+use Rattle.kiss_layout.specs.Frame.{frame, putFrame}
+use Rattle.kiss_layout.specs.Build.{refusal, built}
+use Rattle.kiss_layout.specs.Scan.{stretch}
 use Rattle.kiss_reader.specs.Meaning.{kept, framesOf}
 use Rattle.packets.specs.Frames.{chunk, chunks, dataFrames}
 use Rattle.starred.specs.Starred.{starred, sameFrames, counterTest, holds, StarredHold}

@@ -10,13 +10,13 @@ use Rattle.choice.specs.Pick.{and}
 use Rattle.choice.specs.Cases.{allPass, same}
 use Rattle.protocol.specs.declared.PacketFrameCounter.{PacketFrameCounter}
 use Rattle.protocol.specs.declared.PacketFrameCounter.the-variants.{Frame as Counted, FinalFrame}
-use Rattle.kiss_escape.specs.declared.Escaped.{Escaped}
-use Rattle.kiss_escape.specs.declared.Escaped.the-variants.{Wrote, NoRoom as NoRoomFor}
-use Rattle.kiss_escape.specs.Escape.{escaped}
-use Rattle.kiss_escape.specs.Unescape.{unescaped}
-use Rattle.kiss_frame.specs.declared.Built.{Built}
-use Rattle.kiss_frame.specs.declared.Built.the-variants.{Frame, PayloadTooBig, LsfWrongSize, OutOfRange, NoRoom}
-use Rattle.kiss_build.specs.Build.{Building, txDelay, built}
+use Rattle.kiss_layout.specs.declared.Escaped.{Escaped}
+use Rattle.kiss_layout.specs.declared.Escaped.the-variants.{Wrote, NoRoom as NoRoomFor}
+use Rattle.kiss_layout.specs.Escape.{escaped}
+use Rattle.kiss_layout.specs.Unescape.{unescaped}
+use Rattle.kiss_layout.specs.declared.Built.{Built}
+use Rattle.kiss_layout.specs.declared.Built.the-variants.{Frame, PayloadTooBig, LsfWrongSize, OutOfRange, NoRoom}
+use Rattle.kiss_layout.specs.Build.{Building, txDelay, built}
 use Rattle.kiss_reader.specs.Meaning.{framesOf}
 use Rattle.packets.specs.Frames.{AirFrame, setup, piece, dataFrames}
 

@@ -22,8 +22,8 @@ use Rattle.lich.specs.declared.Assembly.{Assembly}
 use Rattle.lich.specs.declared.Assembly.the-variants.{Whole, Missing}
 use Rattle.lich.specs.Lich.{heardCount, newCollection, withSegment, segmentSet, assembled}
 use Rattle.lich.proofs.Masks.{stays-small}
-use Rattle.kiss_frame.specs.declared.Built.{Built}
-use Rattle.kiss_build.specs.Build.{streamSetup, built}
+use Rattle.kiss_layout.specs.declared.Built.{Built}
+use Rattle.kiss_layout.specs.Build.{streamSetup, built}
 use Rattle.state.specs.declared.State.the-variants.{RxStream}
 use Rattle.radio.specs.declared.Radio.{Radio}
 use Rattle.radio.specs.declared.Heard.{Heard}

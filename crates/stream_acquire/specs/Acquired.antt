@@ -9,7 +9,7 @@ use Rattle.crc.specs.Crc.{crcOf}
 use Rattle.protocol.specs.declared.StreamFrame.{StreamFrame}
 use Rattle.lich.specs.declared.LichCollection.{LichCollection}
 use Rattle.lich.specs.Lich.{heardCount, newCollection, withSegment}
-use Rattle.kiss_build.specs.Build.{streamSetup}
+use Rattle.kiss_layout.specs.Build.{streamSetup}
 use Rattle.state.specs.declared.State.the-variants.{RxAcquiringStream, RxStream}
 use Rattle.radio.specs.declared.Radio.{Radio}
 use Rattle.radio.specs.declared.Heard.{Heard}

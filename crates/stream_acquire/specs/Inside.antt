@@ -10,7 +10,7 @@ use Rattle.lich.specs.declared.LichCollection.{LichCollection}
 use Rattle.lich.specs.declared.Assembly.{Assembly}
 use Rattle.lich.specs.declared.Assembly.the-variants.{Whole, Missing, OutOfBounds}
 use Rattle.lich.specs.Lich.{newCollection, segmentSet, assembled}
-use Rattle.kiss_build.specs.Build.{streamSetup, built}
+use Rattle.kiss_layout.specs.Build.{streamSetup, built}
 use Rattle.state.specs.declared.State.the-variants.{RxStream}
 use Rattle.radio.specs.declared.Radio.{Radio}
 use Rattle.radio.specs.declared.AirAnswer.the-variants.{OutOfRange}

@@ -10,7 +10,7 @@ use lib.Seq.{sets}
 use borrow.Author.Tests.{leb-true, leb-false}
 use Rattle.store.proofs.Runs.{put-all, sets-append}
 use Rattle.protocol.specs.Lsf.{part}
-use Rattle.kiss_stream.specs.Stream.{streamOf}
+use Rattle.kiss_layout.specs.Stream.{streamOf}
 use Rattle.streams.specs.Layout.{FRAME, endByte, bytesOf}
 
 pub frame-stored : (z lich voice : List ℕ) (i a b e : ℕ) → length z ≡ FRAME → length lich ≡ 5 → length voice ≡ 16

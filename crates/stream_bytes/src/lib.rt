@@ -1,6 +1,6 @@
 // How the stream queue stores a data payload.
 ghost use mathlib.Core.Path.{_≡_};
-ghost use Rattle.kiss_stream.specs.Stream.{streamOf};
+ghost use Rattle.kiss_layout.specs.Stream.{streamOf};
 ghost use Rattle.streams.specs.Layout.{bytesOf};
 
 // The bytes to be stored of what a data payload stands for. The LICH index has the top three bits of its byte, and the top bit of the number marks the end.

@@ -7,8 +7,8 @@ use lib.ListN.{length}
 use borrow.Author.Tests.{lt-ltb, le-ltb}
 use Rattle.choice.specs.Pick.{pick}
 use Rattle.protocol.specs.declared.StreamFrame.{StreamFrame}
-use Rattle.kiss_frame.specs.declared.Built.{Built}
-use Rattle.kiss_build.specs.Build.{streamData, built}
+use Rattle.kiss_layout.specs.declared.Built.{Built}
+use Rattle.kiss_layout.specs.Build.{streamData, built}
 use Rattle.state.specs.declared.State.{State}
 use Rattle.radio.specs.declared.Radio.{Radio}
 use Rattle.radio.specs.declared.AirAnswer.the-variants.{OutOfRange}

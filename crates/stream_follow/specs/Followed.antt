@@ -4,7 +4,7 @@ use mathlib.Core.List.{List}
 use lib.Dec.{ltb}
 use Rattle.choice.specs.Pick.{pick}
 use Rattle.protocol.specs.declared.StreamFrame.{StreamFrame}
-use Rattle.kiss_build.specs.Build.{streamData}
+use Rattle.kiss_layout.specs.Build.{streamData}
 use Rattle.state.specs.declared.State.{State}
 use Rattle.state.specs.declared.State.the-variants.{Idle, RxStream}
 use Rattle.radio.specs.declared.Radio.{Radio}

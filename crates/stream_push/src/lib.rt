@@ -1,5 +1,5 @@
 // The push of the stream queue, behind `streams`, which has the record and the definitions.
-use kiss_read::Decoded;
+use kiss_layout::Decoded;
 use kiss_read::decode_payload;
 use protocol::LsfFrame;
 use stream_bytes::frame_bytes;

@@ -11,13 +11,13 @@ use Rattle.choice.specs.Pick.{pick}
 use Rattle.store.specs.Room.{over}
 use Rattle.protocol.specs.declared.StreamFrame.{StreamFrame}
 use Rattle.protocol.specs.Lsf.{part}
-use Rattle.kiss_read.specs.declared.Decoded.{Decoded}
-use Rattle.kiss_read.specs.declared.Decoded.the-variants.{Payload}
-use Rattle.kiss_stream.specs.Stream.{streamContent, streamOf}
-use Rattle.kiss_build.specs.Build.{streamSetup, streamData, refusal, frameOf}
-use Rattle.kiss_build.specs.Promises.{Accepted}
-use Rattle.kiss_stream.proofs.Streams.{stream-length}
-use Rattle.kiss_build.proofs.Kept.{built-reads-back, stream-content-reads-back}
+use Rattle.kiss_layout.specs.declared.Decoded.{Decoded}
+use Rattle.kiss_layout.specs.declared.Decoded.the-variants.{Payload}
+use Rattle.kiss_layout.specs.Stream.{streamContent, streamOf}
+use Rattle.kiss_layout.specs.Build.{streamSetup, streamData, refusal, frameOf}
+use Rattle.kiss_layout.specs.Promises.{Accepted}
+use Rattle.kiss_layout.proofs.Streams.{stream-length}
+use Rattle.kiss_layout.proofs.Kept.{built-reads-back, stream-content-reads-back}
 use Rattle.streams.specs.Queue.{decodedOf}
 
 -- what a content stands for is in its first 24 bytes

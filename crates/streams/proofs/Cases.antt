@@ -9,8 +9,8 @@ use borrow.Author.Tests.{eq-eqb, ne-eqb, le-leb, lt-leb, ltb-true}
 use Rattle.choice.specs.Pick.{pick, and-fst, and-snd}
 use Rattle.store.specs.Room.{placed}
 use Rattle.crc.specs.Crc.{crcOf}
-use Rattle.kiss_read.specs.declared.Decoded.{Decoded}
-use Rattle.kiss_stream.specs.Stream.{streamOf}
+use Rattle.kiss_layout.specs.declared.Decoded.{Decoded}
+use Rattle.kiss_layout.specs.Stream.{streamOf}
 use Rattle.streams.specs.declared.StreamQueue.{StreamQueue}
 use Rattle.streams.specs.declared.StreamAnswer.the-variants.{Queued, LsfPending, Ignored}
 use Rattle.streams.specs.declared.StreamReadAnswer.the-variants.{Nothing, WrongStore as NoStore, OutOfBounds as NoState}

@@ -14,9 +14,9 @@ use Rattle.store.specs.Room.{placed}
 use Rattle.store.proofs.Places.{placed-length}
 use Rattle.protocol.specs.declared.StreamFrame.{StreamFrame}
 use Rattle.crc.specs.Crc.{crcOf}
-use Rattle.kiss_read.specs.declared.Decoded.{Decoded}
-use Rattle.kiss_read.specs.declared.Decoded.the-variants.{Payload}
-use Rattle.kiss_build.specs.Build.{streamSetup, streamData, frameOf as builtFrame}
+use Rattle.kiss_layout.specs.declared.Decoded.{Decoded}
+use Rattle.kiss_layout.specs.declared.Decoded.the-variants.{Payload}
+use Rattle.kiss_layout.specs.Build.{streamSetup, streamData, frameOf as builtFrame}
 use Rattle.streams.specs.declared.StreamQueue.{StreamQueue}
 use Rattle.streams.specs.declared.StreamAnswer.{StreamAnswer}
 use Rattle.streams.specs.declared.StreamAnswer.the-variants.{Queued, LsfPending, Ignored, MalformedKissFrame, WrongStore, OutOfBounds}

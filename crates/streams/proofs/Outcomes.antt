@@ -10,12 +10,12 @@ use borrow.Author.Tests.{eqb-true}
 use Rattle.choice.specs.Pick.{pick}
 use Rattle.store.specs.Room.{placed}
 use Rattle.crc.specs.Crc.{crcOf}
-use Rattle.kiss_escape.proofs.Unescaped.{room-length}
-use Rattle.kiss_read.specs.declared.Decoded.{Decoded}
-use Rattle.kiss_read.specs.declared.Decoded.the-variants.{Payload, MalformedKissFrame as NoPayload}
-use Rattle.kiss_fend.specs.Scan.{stretch, afterFends}
-use Rattle.kiss_read.specs.Read.{contentIn, payloadAt, decoded}
-use Rattle.kiss_stream.specs.Stream.{streamOf}
+use Rattle.kiss_layout.proofs.Unescaped.{room-length}
+use Rattle.kiss_layout.specs.declared.Decoded.{Decoded}
+use Rattle.kiss_layout.specs.declared.Decoded.the-variants.{Payload, MalformedKissFrame as NoPayload}
+use Rattle.kiss_layout.specs.Scan.{stretch, afterFends}
+use Rattle.kiss_layout.specs.Read.{contentIn, payloadAt, decoded}
+use Rattle.kiss_layout.specs.Stream.{streamOf}
 use Rattle.streams.specs.declared.StreamQueue.{StreamQueue}
 use Rattle.streams.specs.declared.StreamAnswer.{StreamAnswer}
 use Rattle.streams.specs.declared.StreamAnswer.the-variants.{Queued, LsfPending, Ignored, MalformedKissFrame, WrongStore, OutOfBounds}

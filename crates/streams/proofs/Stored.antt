@@ -11,7 +11,7 @@ use lib.Seq.{take-at, take-all, drop-append-add, getD-append-add, length-take-le
 use Rattle.crc.specs.Crc.{twoBytes}
 use Rattle.protocol.specs.declared.StreamFrame.{StreamFrame}
 use Rattle.protocol.specs.Lsf.{part}
-use Rattle.kiss_stream.specs.Stream.{streamOf}
+use Rattle.kiss_layout.specs.Stream.{streamOf}
 use Rattle.streams.specs.Layout.{FRAME, endByte, bytesOf, frameOf}
 
 end-read : (e : Bool) → not (eqb (endByte e) 0) ≡ e

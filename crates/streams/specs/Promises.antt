@@ -10,10 +10,10 @@ use Rattle.choice.specs.Pick.{pick}
 use Rattle.crc.specs.Crc.{crcOf}
 use Rattle.protocol.specs.declared.StreamFrame.{StreamFrame}
 use Rattle.protocol.specs.Lsf.{part}
-use Rattle.kiss_read.specs.declared.Decoded.the-variants.{Payload}
-use Rattle.kiss_stream.specs.Stream.{streamOf}
-use Rattle.kiss_build.specs.Build.{streamSetup, streamData, frameOf as builtFrame}
-use Rattle.kiss_build.specs.Promises.{Accepted}
+use Rattle.kiss_layout.specs.declared.Decoded.the-variants.{Payload}
+use Rattle.kiss_layout.specs.Stream.{streamOf}
+use Rattle.kiss_layout.specs.Build.{streamSetup, streamData, frameOf as builtFrame}
+use Rattle.kiss_layout.specs.Promises.{Accepted}
 use Rattle.streams.specs.declared.StreamQueue.{StreamQueue}
 use Rattle.streams.specs.declared.StreamAnswer.{StreamAnswer}
 use Rattle.streams.specs.declared.StreamAnswer.the-variants.{Queued, LsfPending, Ignored, MalformedKissFrame, WrongStore, OutOfBounds}

@@ -11,10 +11,10 @@ use Rattle.crc.specs.Crc.{crcOf}
 use Rattle.protocol.specs.declared.lsf.LsfFrame.{LsfFrame}
 use Rattle.protocol.specs.declared.StreamFrame.{StreamFrame}
 use Rattle.protocol.specs.Lsf.{part}
-use Rattle.kiss_read.specs.declared.Decoded.{Decoded}
-use Rattle.kiss_read.specs.declared.Decoded.the-variants.{Payload, MalformedKissFrame as NoPayload}
-use Rattle.kiss_read.specs.Read.{decoded}
-use Rattle.kiss_stream.specs.Stream.{streamOf}
+use Rattle.kiss_layout.specs.declared.Decoded.{Decoded}
+use Rattle.kiss_layout.specs.declared.Decoded.the-variants.{Payload, MalformedKissFrame as NoPayload}
+use Rattle.kiss_layout.specs.Read.{decoded}
+use Rattle.kiss_layout.specs.Stream.{streamOf}
 use Rattle.streams.specs.declared.StreamQueue.{StreamQueue}
 use Rattle.streams.specs.declared.StreamAnswer.{StreamAnswer}
 use Rattle.streams.specs.declared.StreamAnswer.the-variants.{Queued, LsfPending, Ignored, MalformedKissFrame, WrongStore, OutOfBounds}

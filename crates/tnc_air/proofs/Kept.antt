@@ -16,8 +16,8 @@ use Rattle.protocol.specs.declared.PacketFrameCounter.{PacketFrameCounter}
 use Rattle.protocol.specs.declared.PacketFrameCounter.the-variants.{Frame as Counted, FinalFrame as Final}
 use Rattle.protocol.specs.declared.lsf.Mode.{Mode}
 use Rattle.protocol.specs.declared.lsf.Mode.the-variants.{Packet, Stream}
-use Rattle.kiss_build.specs.Build.{fullPacket, streamSetup, frameOf}
-use Rattle.kiss_build.proofs.Kept.{built-at-most-1713}
+use Rattle.kiss_layout.specs.Build.{fullPacket, streamSetup, frameOf}
+use Rattle.kiss_layout.proofs.Kept.{built-at-most-1713}
 use Rattle.state.specs.declared.Reception.{Reception}
 use Rattle.state.specs.declared.Reception.the-variants.{Nothing, Acquiring as Segments, Stream as InStream, Packet as InPacket}
 use Rattle.state.specs.State.{receptionOf}

@@ -10,7 +10,7 @@ use Rattle.protocol.specs.Lsf.{part}
 use Rattle.protocol.specs.declared.PacketFrame.{PacketFrame}
 use Rattle.protocol.specs.declared.PacketFrameCounter.the-variants.{Frame as Counted, FinalFrame as Final}
 use Rattle.protocol.specs.declared.lsf.Mode.the-variants.{Packet}
-use Rattle.kiss_build.specs.Build.{fullPacket, frameOf}
+use Rattle.kiss_layout.specs.Build.{fullPacket, frameOf}
 use Rattle.state.specs.declared.State.the-variants.{RxPacket}
 use Rattle.state.specs.declared.Reception.{Reception}
 use Rattle.state.specs.State.{transmits, receptionOf}

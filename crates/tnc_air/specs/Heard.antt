@@ -9,7 +9,7 @@ use Rattle.protocol.specs.Lsf.{part}
 use Rattle.protocol.specs.declared.PacketFrame.{PacketFrame}
 use Rattle.protocol.specs.declared.PacketFrameCounter.{PacketFrameCounter}
 use Rattle.protocol.specs.declared.PacketFrameCounter.the-variants.{Frame as Counted, FinalFrame as Final}
-use Rattle.kiss_build.specs.Build.{fullPacket}
+use Rattle.kiss_layout.specs.Build.{fullPacket}
 use Rattle.state.specs.declared.State.the-variants.{Idle}
 use Rattle.state.specs.declared.Reception.{Reception}
 use Rattle.state.specs.declared.Reception.the-variants.{Nothing, Acquiring as Segments, Stream as InStream, Packet as InPacket}

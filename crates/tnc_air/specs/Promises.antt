@@ -11,7 +11,7 @@ use Rattle.protocol.specs.Kinds.{modeOf}
 use Rattle.protocol.specs.declared.PacketFrame.{PacketFrame}
 use Rattle.protocol.specs.declared.PacketFrameCounter.the-variants.{Frame as Counted, FinalFrame as Final}
 use Rattle.protocol.specs.declared.lsf.Mode.the-variants.{Packet, Stream}
-use Rattle.kiss_build.specs.Build.{fullPacket, streamSetup, frameOf}
+use Rattle.kiss_layout.specs.Build.{fullPacket, streamSetup, frameOf}
 use Rattle.outgoing.specs.Message.{left}
 use Rattle.state.specs.declared.State.the-variants.{Idle, RxStream, RxPacket}
 use Rattle.state.specs.State.{transmits}

@@ -22,7 +22,7 @@ use Rattle.lich.specs.Promises.{afterAll as withAll}
 use Rattle.lich.proofs.Masks.{then-heard}
 use Rattle.lich.proofs.Collected.{Sound as Whole30}
 use Rattle.lich.proofs.Kept.{any-order-gives-back}
-use Rattle.kiss_build.specs.Build.{streamSetup}
+use Rattle.kiss_layout.specs.Build.{streamSetup}
 use Rattle.state.specs.declared.State.the-variants.{RxStream}
 use Rattle.state.specs.State.{transmits}
 use Rattle.radio.specs.Box.{Box, Receiving}

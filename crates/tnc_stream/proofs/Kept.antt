@@ -14,7 +14,7 @@ use Rattle.store.specs.Room.{over}
 use Rattle.protocol.specs.declared.StreamFrame.{StreamFrame}
 use Rattle.lich.specs.declared.LichCollection.{LichCollection}
 use Rattle.lich.specs.Lich.{newCollection}
-use Rattle.kiss_build.specs.Build.{streamSetup, streamData}
+use Rattle.kiss_layout.specs.Build.{streamSetup, streamData}
 use Rattle.state.specs.declared.State.{State}
 use Rattle.state.specs.declared.State.the-variants.{Idle, RxStream, RxPacket}
 use Rattle.state.specs.declared.Reception.{Reception}

@@ -11,7 +11,7 @@ use Rattle.crc.specs.Crc.{crcOf}
 use Rattle.protocol.specs.declared.StreamFrame.{StreamFrame}
 use Rattle.lich.specs.declared.LichCollection.{LichCollection}
 use Rattle.lich.specs.Lich.{segmentOf, newCollection}
-use Rattle.kiss_build.specs.Build.{streamSetup, streamData}
+use Rattle.kiss_layout.specs.Build.{streamSetup, streamData}
 use Rattle.outgoing.specs.Message.{left}
 use Rattle.state.specs.declared.State.{State}
 use Rattle.state.specs.declared.State.the-variants.{Idle, RxAcquiringStream, RxStream, RxPacket}

@@ -1,7 +1,7 @@
 -- `air_lsf::begin_stream` meets its contract. Assumes nothing.
 use mathlib.Core.Path.{_≡_}
 use lib.ListN.{length}
-use Rattle.kiss_build.specs.Build.{streamSetup}
+use Rattle.kiss_layout.specs.Build.{streamSetup}
 use Rattle.state.specs.declared.State.the-variants.{RxStream}
 use Rattle.radio.proofs.Messages.{setup-accepted}
 use Rattle.radio_told.proofs.Tells.{told}

@@ -1,6 +1,6 @@
 -- `event_open::is_kept` meets its contract. Assumes nothing.
 use Rattle.choice.specs.Pick.{callees}
-use Rattle.kiss_fend.proofs.Scans.{is-not, not-is}
+use Rattle.kiss_layout.proofs.Scans.{is-not, not-is}
 use Rattle.event_open.specs.Inside.{keeps}
 use Rattle.event_open.proofs.is_kept.Statement.{statement}
 use Rattle.event_open.proofs.is_kept.Tie as tie

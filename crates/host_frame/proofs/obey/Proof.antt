@@ -1,7 +1,7 @@
 -- `host_frame::obey` meets its contract. Assumes nothing.
 use mathlib.Core.Path.{_∙_}
 use borrow.Author.Needs.{needs}
-use Rattle.kiss_read.specs.declared.PortRead.the-variants.{Port, MalformedKissFrame as NoPort}
+use Rattle.kiss_layout.specs.declared.PortRead.the-variants.{Port, MalformedKissFrame as NoPort}
 use Rattle.host_frame.proofs.Cases.{port-as}
 use Rattle.host_frame.proofs.obey.Statement.{statement}
 use Rattle.host_frame.proofs.obey.Tie as tie

@@ -1,9 +1,9 @@
 -- `host_frame::obey_on` meets its contract. Assumes nothing.
 use mathlib.Core.Path.{_≡_, ap, _∙_}
 use borrow.Author.Needs.{needs}
-use Rattle.kiss_read.specs.declared.KissCommand.the-variants.{DataFrame, TxDelay, P, FullDuplex}
-use Rattle.kiss_read.specs.declared.CommandRead.{CommandRead}
-use Rattle.kiss_read.specs.declared.CommandRead.the-variants.{Command, MalformedKissFrame as NoCommand, UnsupportedKissCommand as NoSuch}
+use Rattle.kiss_layout.specs.declared.KissCommand.the-variants.{DataFrame, TxDelay, P, FullDuplex}
+use Rattle.kiss_layout.specs.declared.CommandRead.{CommandRead}
+use Rattle.kiss_layout.specs.declared.CommandRead.the-variants.{Command, MalformedKissFrame as NoCommand, UnsupportedKissCommand as NoSuch}
 use Rattle.host_frame.specs.Frame.{byCommand, obeyedOn}
 use Rattle.host_frame.proofs.Cases.{other-port, command-as}
 use Rattle.host_frame.proofs.obey_on.Statement.{statement}

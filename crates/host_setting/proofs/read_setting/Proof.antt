@@ -2,7 +2,7 @@
 use mathlib.Core.Path.{_∙_}
 use borrow.Author.Needs.{needs}
 use Rattle.choice.specs.Pick.{tests}
-use Rattle.kiss_read.specs.declared.Decoded.the-variants.{Payload, MalformedKissFrame as NoPayload}
+use Rattle.kiss_layout.specs.declared.Decoded.the-variants.{Payload, MalformedKissFrame as NoPayload}
 use Rattle.host_setting.specs.Setting.{settingFrom}
 use Rattle.host_setting.proofs.Cases.{setting-as}
 use Rattle.host_setting.proofs.read_setting.Statement.{statement}

@@ -2,8 +2,8 @@
 use mathlib.Core.Path.{_∙_}
 use borrow.Author.Needs.{needs}
 use Rattle.choice.specs.Pick.{tests}
-use Rattle.kiss_build.specs.Build.{fullPacket, refusal}
-use Rattle.kiss_build.proofs.Builds.{built-accepted, built-refused}
+use Rattle.kiss_layout.specs.Build.{fullPacket, refusal}
+use Rattle.kiss_layout.proofs.Builds.{built-accepted, built-refused}
 use Rattle.kiss_build.proofs.new_full_packet.Statement.{statement}
 use Rattle.kiss_build.proofs.new_full_packet.Tie as tie
 

@@ -6,10 +6,10 @@ use Prim.Native.Nat.{ℕ}
 use borrow.Author.Needs.{needs}
 use Rattle.kiss_stream.specs.declared.StreamContent.{StreamContent}
 use Rattle.kiss_stream.proofs.Checked.{when-outside, when-inside}
-use Rattle.kiss_frame.specs.declared.Built.the-variants.{OutOfRange}
-use Rattle.kiss_frame.specs.Frame.{frame, putFrame}
-use Rattle.kiss_build.specs.Build.{streamData, refusal}
-use Rattle.kiss_build.proofs.Builds.{built-accepted, built-refused}
+use Rattle.kiss_layout.specs.declared.Built.the-variants.{OutOfRange}
+use Rattle.kiss_layout.specs.Frame.{frame, putFrame}
+use Rattle.kiss_layout.specs.Build.{streamData, refusal}
+use Rattle.kiss_layout.proofs.Builds.{built-accepted, built-refused}
 use Rattle.kiss_build.proofs.new_stream_data.Statement.{statement}
 use Rattle.kiss_build.proofs.new_stream_data.Tie as tie
 

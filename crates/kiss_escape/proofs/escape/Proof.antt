@@ -2,8 +2,8 @@
 use mathlib.Core.Path.{sym, _∙_}
 use native.Mathlib.Omega.{arith}
 use borrow.Author.Needs.{needs}
-use Rattle.kiss_escape.specs.declared.Escaped.the-variants.{Wrote}
-use Rattle.kiss_escape.proofs.Escapes.{esc-length, escaped-yes, escaped-no}
+use Rattle.kiss_layout.specs.declared.Escaped.the-variants.{Wrote}
+use Rattle.kiss_layout.proofs.Escapes.{esc-length, escaped-yes, escaped-no}
 use Rattle.kiss_escape.proofs.escape.Statement.{statement}
 use Rattle.kiss_escape.proofs.escape.Tie as tie
 

@@ -4,8 +4,8 @@ use mathlib.Core.Path.{_≡_, refl, ap}
 use native.Mathlib.Omega.{arith}
 use borrow.Author.Needs.{needs}
 use lib.ListN.{length, drop}
-use Rattle.kiss_escape.specs.Escape.{esc}
-use Rattle.kiss_escape.proofs.Escapes.{esc-length, esc-at-special, esc-at-plain, esc-done}
+use Rattle.kiss_layout.specs.Escape.{esc}
+use Rattle.kiss_layout.proofs.Escapes.{esc-length, esc-at-special, esc-at-plain, esc-done}
 use Rattle.kiss_escape.proofs.escaped_len.Statement.{statement}
 use Rattle.kiss_escape.proofs.escaped_len.Tie as tie
 

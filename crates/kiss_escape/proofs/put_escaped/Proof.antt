@@ -6,9 +6,9 @@ use native.Mathlib.Omega.{arith}
 use borrow.Author.Needs.{needs}
 use lib.Seq.{sets}
 use lib.ListN.{length, drop, getD, length-set}
-use Rattle.kiss_escape.specs.Escape.{FESC, esc}
+use Rattle.kiss_layout.specs.Escape.{FESC, esc}
 use Rattle.store.proofs.Runs.{put-one, put-two, put-front}
-use Rattle.kiss_escape.proofs.Escapes.{esc-at-special, esc-at-plain, esc-done}
+use Rattle.kiss_layout.proofs.Escapes.{esc-at-special, esc-at-plain, esc-done}
 use Rattle.kiss_escape.proofs.put_escaped.Statement.{statement}
 use Rattle.kiss_escape.proofs.put_escaped.Tie as tie
 

@@ -7,7 +7,7 @@ use native.Mathlib.Omega.{arith}
 use borrow.Author.Needs.{needs}
 use lib.Seq.{sets}
 use lib.ListN.{length, drop}
-use Rattle.kiss_escape.specs.Escape.{esc}
+use Rattle.kiss_layout.specs.Escape.{esc}
 use Rattle.kiss_escape.proofs.Plain.{plain-length, plain-put}
 use Rattle.kiss_escape.proofs.put_plain.Statement.{statement}
 use Rattle.kiss_escape.proofs.put_plain.Tie as tie

@@ -5,9 +5,9 @@ use native.Mathlib.Omega.{arith}
 use borrow.Author.Needs.{needs}
 use borrow.Author.Tests.{eq-eqb, ne-eqb}
 use lib.ListN.{length, drop, getD}
-use Rattle.kiss_escape.specs.Escape.{FEND}
-use Rattle.kiss_fend.specs.Scan.{isFend, runOf}
-use Rattle.kiss_fend.proofs.Scans.{run-on, run-stops, run-ends}
+use Rattle.kiss_layout.specs.Escape.{FEND}
+use Rattle.kiss_layout.specs.Scan.{isFend, runOf}
+use Rattle.kiss_layout.proofs.Scans.{run-on, run-stops, run-ends}
 use Rattle.kiss_fend.proofs.leading_fends.Statement.{statement}
 use Rattle.kiss_fend.proofs.leading_fends.Tie as tie
 

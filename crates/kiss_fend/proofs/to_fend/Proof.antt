@@ -6,8 +6,9 @@ use mathlib.Core.List.{List}
 use native.Mathlib.Omega.{arith}
 use borrow.Author.Needs.{needs}
 use lib.ListN.{length, drop, getD}
-use Rattle.kiss_fend.specs.Scan.{notFend, runOf}
-use Rattle.kiss_fend.proofs.Scans.{run-on, run-stops, run-ends, run-block, is-not, not-is}
+use Rattle.kiss_layout.specs.Scan.{notFend, runOf}
+use Rattle.kiss_layout.proofs.Scans.{run-on, run-stops, run-ends, is-not, not-is}
+use Rattle.kiss_fend.proofs.Past.{run-block}
 use Rattle.kiss_fend.proofs.to_fend.Statement.{statement}
 use Rattle.kiss_fend.proofs.to_fend.Tie as tie
 

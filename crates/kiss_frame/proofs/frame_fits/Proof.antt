@@ -7,8 +7,8 @@ use borrow.Author.Needs.{needs}
 use borrow.Author.Tests.{le-leb, lt-leb, leb-true, leb-false}
 use lib.Dec.{leb}
 use lib.ListN.{length}
-use Rattle.kiss_escape.specs.Escape.{esc}
-use Rattle.kiss_escape.proofs.Escapes.{esc-length}
+use Rattle.kiss_layout.specs.Escape.{esc}
+use Rattle.kiss_layout.proofs.Escapes.{esc-length}
 use Rattle.kiss_frame.proofs.frame_fits.Statement.{statement}
 use Rattle.kiss_frame.proofs.frame_fits.Tie as tie
 

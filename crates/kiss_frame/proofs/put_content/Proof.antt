@@ -8,10 +8,10 @@ use borrow.Rule.Slice.PartMut.{midOf, putMid}
 use lib.ListN.{length, length-take, length-drop}
 use lib.Seq.{sets}
 use Rattle.store.proofs.Parts.{lent-over}
-use Rattle.kiss_escape.specs.Escape.{esc}
-use Rattle.kiss_escape.specs.declared.Escaped.{Escaped}
-use Rattle.kiss_escape.specs.declared.Escaped.the-variants.{Wrote, NoRoom}
-use Rattle.kiss_escape.proofs.Escapes.{escaped-in, escaped-yes}
+use Rattle.kiss_layout.specs.Escape.{esc}
+use Rattle.kiss_layout.specs.declared.Escaped.{Escaped}
+use Rattle.kiss_layout.specs.declared.Escaped.the-variants.{Wrote, NoRoom}
+use Rattle.kiss_layout.proofs.Escapes.{escaped-in, escaped-yes}
 use Rattle.kiss_frame.proofs.put_content.Statement.{statement}
 use Rattle.kiss_frame.proofs.put_content.Tie as tie
 

@@ -8,10 +8,10 @@ use borrow.Author.Tests.{leb-true, leb-false}
 use lib.ListN.{length, set, length-set}
 use lib.Seq.{sets, length-sets}
 use Rattle.store.specs.Room.{over}
-use Rattle.kiss_frame.specs.declared.Built.the-variants.{Frame}
-use Rattle.kiss_escape.specs.Escape.{FEND, esc}
-use Rattle.kiss_frame.specs.Frame.{frame}
-use Rattle.kiss_frame.proofs.Frames.{frame-length-two, put-yes, put-no, frame-stored}
+use Rattle.kiss_layout.specs.declared.Built.the-variants.{Frame}
+use Rattle.kiss_layout.specs.Escape.{FEND, esc}
+use Rattle.kiss_layout.specs.Frame.{frame}
+use Rattle.kiss_layout.proofs.Frames.{frame-length-two, put-yes, put-no, frame-stored}
 use Rattle.kiss_frame.proofs.put_frame.Statement.{statement}
 use Rattle.kiss_frame.proofs.put_frame.Tie as tie
 

@@ -1,7 +1,7 @@
 -- `kiss_read::command` meets its contract. Assumes nothing.
 use mathlib.Core.Path.{sym, ap, _∙_}
 use borrow.Author.Needs.{needs}
-use Rattle.kiss_read.specs.Read.{commandAt, commandRead}
+use Rattle.kiss_layout.specs.Read.{commandAt, commandRead}
 use Rattle.kiss_read.proofs.Headers.{no-header, header}
 use Rattle.kiss_read.proofs.command.Statement.{statement}
 use Rattle.kiss_read.proofs.command.Tie as tie

@@ -1,7 +1,7 @@
 -- `kiss_read::port` meets its contract. Assumes nothing.
 use mathlib.Core.Path.{sym, ap}
 use borrow.Author.Needs.{needs}
-use Rattle.kiss_read.specs.Read.{portAt, portRead}
+use Rattle.kiss_layout.specs.Read.{portAt, portRead}
 use Rattle.kiss_read.proofs.Headers.{no-header, header}
 use Rattle.kiss_read.proofs.port.Statement.{statement}
 use Rattle.kiss_read.proofs.port.Tie as tie

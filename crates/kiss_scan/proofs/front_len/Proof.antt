@@ -4,7 +4,7 @@ use mathlib.Core.Path.{_≡_, sym, ap, _∙_}
 use native.Mathlib.Omega.{arith}
 use borrow.Author.Needs.{needs}
 use lib.ListN.{drop, length-drop}
-use Rattle.kiss_fend.specs.Scan.{notFend, runOf}
+use Rattle.kiss_layout.specs.Scan.{notFend, runOf}
 use Rattle.kiss_scan.proofs.Fronts.{to-the-end, front-length-found, front-length-none}
 use Rattle.kiss_scan.proofs.front_len.Statement.{statement}
 use Rattle.kiss_scan.proofs.front_len.Tie as tie

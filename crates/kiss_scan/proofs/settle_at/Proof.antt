@@ -1,8 +1,8 @@
 -- `kiss_scan::settle_at` meets its contract. Assumes nothing.
 use native.Mathlib.Omega.{arith}
 use borrow.Author.Needs.{needs}
-use Rattle.kiss_fend.specs.Scan.{notFend}
-use Rattle.kiss_fend.proofs.Scans.{run-within}
+use Rattle.kiss_layout.specs.Scan.{notFend}
+use Rattle.kiss_layout.proofs.Scans.{run-within}
 use Rattle.kiss_scan.proofs.Fronts.{settle-sum, settle-short}
 use Rattle.kiss_scan.proofs.settle_at.Statement.{statement}
 use Rattle.kiss_scan.proofs.settle_at.Tie as tie

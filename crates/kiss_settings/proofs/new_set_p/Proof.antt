@@ -1,6 +1,6 @@
 -- `kiss_settings::new_set_p` meets its contract. Assumes nothing.
 use borrow.Author.Needs.{needs}
-use Rattle.kiss_build.specs.Build.{refusal, built}
+use Rattle.kiss_layout.specs.Build.{refusal, built}
 use Rattle.kiss_settings.specs.Setting.{setting}
 use Rattle.kiss_settings.proofs.new_set_p.Statement.{statement}
 use Rattle.kiss_settings.proofs.new_set_p.Tie as tie

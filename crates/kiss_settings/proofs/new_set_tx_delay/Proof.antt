@@ -1,6 +1,6 @@
 -- `kiss_settings::new_set_tx_delay` meets its contract. Assumes nothing.
 use borrow.Author.Needs.{needs}
-use Rattle.kiss_build.specs.Build.{refusal, built}
+use Rattle.kiss_layout.specs.Build.{refusal, built}
 use Rattle.kiss_settings.specs.Setting.{setting}
 use Rattle.kiss_settings.proofs.new_set_tx_delay.Statement.{statement}
 use Rattle.kiss_settings.proofs.new_set_tx_delay.Tie as tie

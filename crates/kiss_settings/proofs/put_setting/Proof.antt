@@ -6,8 +6,8 @@ use native.Mathlib.Omega.{arith}
 use borrow.Author.Needs.{needs}
 use borrow.Author.Tests.{lt-ltb, le-ltb}
 use Rattle.choice.specs.Pick.{pick}
-use Rattle.kiss_read.proofs.Commands.{command-small}
-use Rattle.kiss_frame.specs.Frame.{frame, putFrame}
+use Rattle.kiss_layout.proofs.Commands.{command-small}
+use Rattle.kiss_layout.specs.Frame.{frame, putFrame}
 use Rattle.kiss_settings.specs.Setting.{setting}
 use Rattle.kiss_settings.proofs.put_setting.Statement.{statement}
 use Rattle.kiss_settings.proofs.put_setting.Tie as tie

@@ -1,7 +1,7 @@
 -- `kiss_settings::set_full_duplex` meets its contract. Assumes nothing.
 use borrow.Author.Needs.{needs}
 use Rattle.choice.specs.Pick.{pick}
-use Rattle.kiss_build.specs.Build.{refusal, built}
+use Rattle.kiss_layout.specs.Build.{refusal, built}
 use Rattle.kiss_settings.specs.Setting.{setting}
 use Rattle.kiss_settings.proofs.set_full_duplex.Statement.{statement}
 use Rattle.kiss_settings.proofs.set_full_duplex.Tie as tie

@@ -1,7 +1,7 @@
 -- `kiss_stream::checked_content` meets its contract. Assumes nothing.
 use borrow.Author.Needs.{needs}
 use Rattle.choice.specs.Pick.{tests}
-use Rattle.kiss_stream.specs.Stream.{checkedContent}
+use Rattle.kiss_stream.specs.Checked.{checkedContent}
 use Rattle.kiss_stream.proofs.checked_content.Statement.{statement}
 use Rattle.kiss_stream.proofs.checked_content.Tie as tie
 

@@ -7,8 +7,8 @@ use borrow.Author.Needs.{needs}
 use lib.ListN.{length, set, replicate}
 use Rattle.store.proofs.Runs.{put-all}
 use Rattle.store.proofs.Copies.{copied-in}
-use Rattle.kiss_stream.specs.Stream.{numberedData}
-use Rattle.kiss_stream.proofs.Streams.{endMark-small}
+use Rattle.kiss_layout.specs.Stream.{numberedData}
+use Rattle.kiss_layout.proofs.Streams.{endMark-small}
 use Rattle.kiss_stream.proofs.numbered_data.Statement.{statement}
 use Rattle.kiss_stream.proofs.numbered_data.Tie as tie
 

@@ -8,8 +8,8 @@ use lib.ListN.{length, set, replicate, length-set}
 use lib.Seq.{sets, length-sets}
 use Rattle.store.proofs.Copies.{copied-in}
 use Rattle.crc.specs.Crc.{twoBytes, sealed}
-use Rattle.kiss_stream.specs.Stream.{streamContent}
-use Rattle.kiss_stream.proofs.Streams.{content-stored}
+use Rattle.kiss_layout.specs.Stream.{streamContent}
+use Rattle.kiss_layout.proofs.Streams.{content-stored}
 use Rattle.kiss_stream.proofs.stream_content.Statement.{statement}
 use Rattle.kiss_stream.proofs.stream_content.Tie as tie
 

@@ -6,7 +6,7 @@ use native.Mathlib.Nat.{add-zero}
 use native.Mathlib.Omega.{arith}
 use borrow.Author.Needs.{needs}
 use lib.ListN.{length, drop}
-use Rattle.kiss_escape.specs.Unescape.{codes}
+use Rattle.kiss_layout.specs.Unescape.{codes}
 use Rattle.kiss_unescape.specs.Lays.{lays}
 use Rattle.kiss_unescape.proofs.Steps.{plain-length, plain-put}
 use Rattle.kiss_unescape.proofs.put_plain.Statement.{statement}

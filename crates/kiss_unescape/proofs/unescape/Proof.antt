@@ -5,7 +5,7 @@ use mathlib.Core.List.{List, [], _∷_}
 use native.Mathlib.Omega.{arith}
 use borrow.Author.Needs.{needs}
 use lib.ListN.{length, drop, getD, length-set}
-use Rattle.kiss_escape.specs.Unescape.{Code, byte, as-found, codes}
+use Rattle.kiss_layout.specs.Unescape.{Code, byte, as-found, codes}
 use Rattle.kiss_unescape.specs.Lays.{lays}
 use Rattle.kiss_unescape.proofs.Steps.{codes-done, codes-at-byte, codes-at-last, codes-at-known, codes-at-other, lays-out, lay-byte, lay-found, all-laid, few-bounds, later}
 use Rattle.kiss_unescape.proofs.unescape.Statement.{statement}

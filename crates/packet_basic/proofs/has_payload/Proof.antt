@@ -3,7 +3,7 @@ use mathlib.Core.Path.{sym, ap, _∙_}
 use mathlib.Core.List.{List}
 use Prim.Native.Nat.{ℕ}
 use borrow.Author.Needs.{needs}
-use Rattle.kiss_read.specs.declared.Decoded.{Decoded}
+use Rattle.kiss_layout.specs.declared.Decoded.{Decoded}
 use Rattle.packets.specs.Frames.{zeros}
 use Rattle.packet_basic.specs.Inside.{isPayload}
 use Rattle.packet_basic.proofs.has_payload.Statement.{statement}

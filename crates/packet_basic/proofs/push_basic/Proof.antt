@@ -6,7 +6,7 @@ use native.Mathlib.Omega.{arith}
 use borrow.Author.Needs.{needs}
 use borrow.Author.Tests.{not-true, not-false}
 use lib.ListN.{length}
-use Rattle.kiss_read.specs.Read.{decoded}
+use Rattle.kiss_layout.specs.Read.{decoded}
 use Rattle.packets.specs.declared.PushAnswer.the-variants.{Queued}
 use Rattle.packets.specs.Frames.{zeros}
 use Rattle.packets.specs.Queue.{ROOM, STORE, soundQueue, basicRoom, madeBasic, withPacket, stored, obeyed, pushedBasic}

@@ -7,8 +7,8 @@ use native.Mathlib.Omega.{arith}
 use borrow.Author.Needs.{needs}
 use borrow.Author.Tests.{not-true, not-false}
 use lib.ListN.{length}
-use Rattle.kiss_read.specs.declared.Decoded.{Decoded}
-use Rattle.kiss_read.specs.declared.Decoded.the-variants.{Payload, MalformedKissFrame as NoPayload}
+use Rattle.kiss_layout.specs.declared.Decoded.{Decoded}
+use Rattle.kiss_layout.specs.declared.Decoded.the-variants.{Payload, MalformedKissFrame as NoPayload}
 use Rattle.streams.specs.Queue.{STORE, soundQueue, decodedPushed, pushed}
 use Rattle.streams.proofs.Cases.{pushed-decoded, payload-short, payload-data, payload-lsf}
 use Rattle.stream_push.proofs.Refused.{pushed-wrong, pushed-unsound}

@@ -6,7 +6,7 @@ use borrow.Author.Needs.{needs}
 use lib.ListN.{length, take, drop, length-take}
 use lib.Seq.{length-take-le}
 use Rattle.protocol.specs.Lsf.{part}
-use Rattle.kiss_build.specs.Build.{fullPacket, built}
+use Rattle.kiss_layout.specs.Build.{fullPacket, built}
 use Rattle.state.specs.declared.State.the-variants.{Idle}
 use Rattle.radio.proofs.Messages.{packet-accepted}
 use Rattle.radio_told.proofs.Tells.{told}

@@ -1,3 +1,0 @@
-pub mod Builds
-pub mod ReadBack
-pub mod Kept

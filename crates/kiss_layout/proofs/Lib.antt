@@ -1,0 +1,12 @@
+pub mod Bytes
+pub mod Escapes
+pub mod Codes
+pub mod Unescaped
+pub mod Escaping
+pub mod Scans
+pub mod Commands
+pub mod Frames
+pub mod Streams
+pub mod Builds
+pub mod ReadBack
+pub mod Kept
