@@ -1,6 +1,6 @@
 // What the TNC does with an LSF from the air, as m17core's tnc.rs has it. A packet that is being received stands in a store of 855 bytes that the caller lends, its LSF first;
 // the message to the host in one of 1,713 bytes.
-use kiss_build::new_stream_setup;
+use kiss_build_stream::new_stream_setup;
 use protocol::LsfFrame;
 use protocol::Mode;
 use radio::Heard;

@@ -4,11 +4,11 @@ use host_record::Host;
 use host_record::stores_fit;
 use host_setting::set_full_duplex;
 use host_setting::set_tx_delay;
+use kiss_header::command;
+use kiss_header::port;
 use kiss_layout::CommandRead;
 use kiss_layout::KissCommand;
 use kiss_layout::PortRead;
-use kiss_read::command;
-use kiss_read::port;
 ghost use mathlib.Core.Path.{_≡_};
 ghost use Rattle.host_frame.specs.Frame.{obeyedOn, obeyed, frameTaken};
 

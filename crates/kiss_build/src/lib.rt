@@ -1,23 +1,15 @@
-// The builders of KISS frames that carry packets and streams, as m17core's kiss.rs has them. Each writes a frame at the start of a room that it is lent.
+// The builders of KISS frames that carry packets, as m17core's kiss.rs has them. Each writes a frame at the start of a room that it is lent.
 use kiss_frame::put_frame;
 use kiss_layout::Built;
-use kiss_stream::checked_content;
-use protocol::StreamFrame;
+use kiss_layout::PORT_PACKET_BASIC;
+use kiss_layout::PORT_PACKET_FULL;
 ghost use mathlib.Core.Path.{_≡_};
-ghost use Rattle.kiss_layout.specs.Build.{built, basicPacket, fullPacket, streamSetup, streamData};
-
-pub const PORT_PACKET_BASIC: u8 = 0;
-
-pub const PORT_PACKET_FULL: u8 = 1;
-
-pub const PORT_STREAM: u8 = 2;
+ghost use Rattle.kiss_layout.specs.Build.{built, basicPacket, fullPacket};
 
 // Headers of data frames, whose command is 0.
 const BASIC_HEADER: u8 = PORT_PACKET_BASIC * 16;
 
 const FULL_HEADER: u8 = PORT_PACKET_FULL * 16;
-
-const STREAM_HEADER: u8 = PORT_STREAM * 16;
 
 // Request to transmit a packet of up to 822 bytes, to which the TNC adds the type and the CRC.
 pub fn new_basic_packet(payload: &[u8], room: &mut [u8]) -> Built
@@ -40,26 +32,4 @@ pub fn new_full_packet(lsf: &[u8], packet: &[u8], room: &mut [u8]) -> Built
         return Built::PayloadTooBig;
     }
     put_frame(FULL_HEADER, lsf, packet, room)
-}
-
-// Request to begin a stream.
-pub fn new_stream_setup(lsf: &[u8], room: &mut [u8]) -> Built
-    ensures { λ r. ⌜ (r, now (room .exit)) ≡ built (streamSetup (now (lsf .entry))) (now (room .entry)) ⌝ }
-{
-    if lsf.len() != 30 {
-        return Built::LsfWrongSize;
-    }
-    put_frame(STREAM_HEADER, b"", lsf, room)
-}
-
-// Request to transmit a part of a stream.
-pub fn new_stream_data(frame: StreamFrame, room: &mut [u8]) -> Built
-    ensures { λ r. ⌜ (r, now (room .exit)) ≡ built (streamData frame) (now (room .entry)) ⌝ }
-{
-    let content = checked_content(frame);
-    if content.valid {
-        let bytes = content.bytes;
-        return put_frame(STREAM_HEADER, b"", &bytes, room);
-    }
-    Built::OutOfRange
 }

@@ -5,7 +5,7 @@ use mathlib.Core.Option.{Option, none, some, Option·map}
 use mathlib.Core.Logic.{_≢_}
 use mathlib.Core.List.{List, [], _∷_, _++_}
 use Prim.Native.Nat.{ℕ, suc, _+_, _≤_, _<_, suc-le-suc}
-use native.Mathlib.Nat.{le-of-suc-le-suc, not-suc-le-zero, zero-add}
+use native.Mathlib.Nat.{le-of-suc-le-suc, not-suc-le-zero}
 use native.Mathlib.Numerals.{add-one}
 use native.Mathlib.Omega.{arith}
 use lib.ListN.{length, take, drop, getD, drop-of-length-le}
@@ -55,6 +55,13 @@ after-fends (b ∷ s) = by (isFend b) (after-fends s)
     by : (t : Bool) → afterFends s ≡ drop (runOf isFend s) s → pick t (afterFends s) (b ∷ s) ≡ drop (pick t (suc (runOf isFend s)) 0) (b ∷ s)
     by true h = h
     by false h = refl
+
+-- the first byte behind the FENDs at the front
+pub no-header : (f : List ℕ) {at : ℕ} → at ≡ runOf isFend f → length f ≤ at → afterFends f ≡ []
+no-header f {at} e h = after-fends f ∙ ap (λ (n : ℕ). drop n f) (sym e) ∙ drop-of-length-le f h
+
+pub header : (f : List ℕ) {at : ℕ} → at ≡ runOf isFend f → at < length f → afterFends f ≡ getD f at 0 ∷ drop (at + 1) f
+header f {at} e h = after-fends f ∙ ap (λ (n : ℕ). drop n f) (sym e) ∙ rw (add-one, drop-cons f at 0)
 
 pub stretch-found : (s : List ℕ) → runOf notFend s < length s → stretch s ≡ some (take (runOf notFend s) s)
 unfolding stretch runOf pick

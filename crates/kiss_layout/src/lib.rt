@@ -1,4 +1,4 @@
-// What KISS frames are, without code: the special bytes, the commands and what the functions of framing answer. specs/ says what escaping, frames, reading and
+// What KISS frames are, without code: the special bytes, the ports, the commands and what the functions of framing answer. specs/ says what escaping, frames, reading and
 // building mean, and proofs/ that what is built reads back. The functions stand in crates above, so that whoever only speaks of frames does not reach them.
 pub const FEND: u8 = 0xC0;
 
@@ -7,6 +7,12 @@ pub const FESC: u8 = 0xDB;
 pub const TFEND: u8 = 0xDC;
 
 pub const TFESC: u8 = 0xDD;
+
+pub const PORT_PACKET_BASIC: u8 = 0;
+
+pub const PORT_PACKET_FULL: u8 = 1;
+
+pub const PORT_STREAM: u8 = 2;
 
 // What `escape` answers: how many bytes it wrote, or that they do not fit.
 pub enum Escaped {

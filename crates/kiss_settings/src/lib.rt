@@ -1,8 +1,8 @@
 // The builders of KISS frames that set a TNC's parameters, as m17core's kiss.rs has them. Each writes a frame of one byte at the start of a room that it is lent.
 use kiss_frame::put_frame;
+use kiss_header::proto_value;
 use kiss_layout::Built;
 use kiss_layout::KissCommand;
-use kiss_read::proto_value;
 ghost use mathlib.Core.Path.{_≡_};
 ghost use Rattle.kiss_layout.specs.Build.{built, txDelay, persistence, fullDuplex};
 ghost use Rattle.kiss_settings.specs.Setting.{setting};

@@ -1,3 +1,1 @@
-pub mod Small
-pub mod Frames
-pub mod Kept
+pub mod Getters

@@ -211,8 +211,8 @@ fn build(kind: u8, a: &[u8], b: &[u8], room: &mut [u8]) -> Built {
     match kind {
         1 => kiss_build::new_basic_packet(a, room),
         2 => kiss_build::new_full_packet(a, b, room),
-        3 => kiss_build::new_stream_setup(a, room),
-        4 => kiss_build::new_stream_data(stream_frame(a), room),
+        3 => kiss_build_stream::new_stream_setup(a, room),
+        4 => kiss_build_stream::new_stream_data(stream_frame(a), room),
         _ => build_setting(kind, at(a, 0), at(a, 1), room),
     }
 }
@@ -277,15 +277,15 @@ fn bytes(kind: u8, a: &[u8], room: &mut [u8]) -> usize {
 }
 
 fn port(a: &[u8]) -> usize {
-    match kiss_read::port(a) {
+    match kiss_header::port(a) {
         PortRead::Port(n) => n as usize,
         PortRead::MalformedKissFrame => MALFORMED,
     }
 }
 
 fn command(a: &[u8]) -> usize {
-    match kiss_read::command(a) {
-        CommandRead::Command(c) => kiss_read::proto_value(c) as usize,
+    match kiss_header::command(a) {
+        CommandRead::Command(c) => kiss_header::proto_value(c) as usize,
         CommandRead::MalformedKissFrame => MALFORMED,
         CommandRead::UnsupportedKissCommand => UNSUPPORTED,
     }
@@ -334,10 +334,10 @@ fn lsf_number(kind: u8, f: LsfFrame) -> usize {
 
 fn lsf_set(kind: u8, v: u8, f: LsfFrame) -> LsfFrame {
     match kind {
-        22 => lsf_fields::set_mode(f, mode(v)),
-        23 => lsf_fields::set_data_type(f, data_type(v)),
-        24 => lsf_fields::set_encryption_type(f, encryption(v)),
-        25 => lsf_fields::set_channel_access_number(f, v),
+        22 => lsf_setters::set_mode(f, mode(v)),
+        23 => lsf_setters::set_data_type(f, data_type(v)),
+        24 => lsf_setters::set_encryption_type(f, encryption(v)),
+        25 => lsf_setters::set_channel_access_number(f, v),
         _ => LsfFrame::packet_basic(),
     }
 }

@@ -1,4 +1,4 @@
-// The link setup frame: 30 bytes, of which 12 and 13 are the type field and the last two the CRC. Its other fields are read and set in crate `lsf_fields`.
+// The link setup frame: 30 bytes, of which 12 and 13 are the type field and the last two the CRC. Its other fields are read in `lsf_fields` and set in `lsf_setters`.
 ghost use mathlib.Core.Path.{_≡_};
 ghost use Rattle.crc.specs.Crc.{crcOf};
 ghost use Rattle.protocol.specs.Lsf.{fieldOf, modeBits};

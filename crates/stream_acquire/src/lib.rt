@@ -1,6 +1,6 @@
 // LICH acquisition, as m17core's tnc.rs has it: an LSF gathered from the segments that stream frames bring. The segments stand at the start of a store of 855 bytes that the
 // caller lends, their mask in the state; the message to the host in a store of 1,713 bytes.
-use kiss_build::new_stream_setup;
+use kiss_build_stream::new_stream_setup;
 use lich::Assembly;
 use lich::LichCollection;
 use protocol::LsfFrame;

@@ -1,5 +1,5 @@
 // A stream frame from the air where a stream is being received, as m17core's tnc.rs takes it. The message to the host stands in a store of 1,713 bytes that the caller lends.
-use kiss_build::new_stream_data;
+use kiss_build_stream::new_stream_data;
 use protocol::StreamFrame;
 use radio::AirAnswer;
 use radio::Heard;

@@ -5,7 +5,7 @@ use native.Mathlib.Omega.{arith}
 use borrow.Author.Needs.{needs}
 use lib.ListN.{take, drop}
 use Rattle.kiss_layout.specs.Unescape.{unescaped}
-use Rattle.kiss_read.proofs.Headers.{decoded-headless, decoded-open, decoded-content}
+use Rattle.kiss_read.proofs.Payloads.{decoded-headless, decoded-open, decoded-content}
 use Rattle.kiss_read.proofs.decode_payload.Statement.{statement}
 use Rattle.kiss_read.proofs.decode_payload.Tie as tie
 

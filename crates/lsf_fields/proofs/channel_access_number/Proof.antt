@@ -1,7 +1,7 @@
 -- `lsf_fields::channel_access_number` meets its contract. Assumes nothing.
 use borrow.Author.Needs.{needs}
 use Rattle.lsf_layout.specs.Bits.{channelBits}
-use Rattle.lsf_fields.proofs.Frames.{field-read}
+use Rattle.lsf_fields.proofs.Getters.{field-read}
 use Rattle.lsf_fields.proofs.channel_access_number.Statement.{statement}
 use Rattle.lsf_fields.proofs.channel_access_number.Tie as tie
 

@@ -1,4 +1,4 @@
--- `kiss_build::new_stream_data` meets its contract. Assumes nothing.
+-- `kiss_build_stream::new_stream_data` meets its contract. Assumes nothing.
 use mathlib.Core.Path.{sym, ap, _∙_}
 use mathlib.Core.Option.{none, some}
 use mathlib.Core.List.{List}
@@ -10,8 +10,8 @@ use Rattle.kiss_layout.specs.declared.Built.the-variants.{OutOfRange}
 use Rattle.kiss_layout.specs.Frame.{frame, putFrame}
 use Rattle.kiss_layout.specs.Build.{streamData, refusal}
 use Rattle.kiss_layout.proofs.Builds.{built-accepted, built-refused}
-use Rattle.kiss_build.proofs.new_stream_data.Statement.{statement}
-use Rattle.kiss_build.proofs.new_stream_data.Tie as tie
+use Rattle.kiss_build_stream.proofs.new_stream_data.Statement.{statement}
+use Rattle.kiss_build_stream.proofs.new_stream_data.Tie as tie
 
 returns : tie.Need-returns
 unfolding refusal

@@ -1,10 +1,10 @@
--- `kiss_read::command` meets its contract. Assumes nothing.
+-- `kiss_header::command` meets its contract. Assumes nothing.
 use mathlib.Core.Path.{sym, ap, _∙_}
 use borrow.Author.Needs.{needs}
 use Rattle.kiss_layout.specs.Read.{commandAt, commandRead}
-use Rattle.kiss_read.proofs.Headers.{no-header, header}
-use Rattle.kiss_read.proofs.command.Statement.{statement}
-use Rattle.kiss_read.proofs.command.Tie as tie
+use Rattle.kiss_layout.proofs.Scans.{no-header, header}
+use Rattle.kiss_header.proofs.command.Statement.{statement}
+use Rattle.kiss_header.proofs.command.Tie as tie
 
 returns : tie.Need-returns
 unfolding commandRead

@@ -1,23 +1,16 @@
--- A frame's header and payload, found by index. Assumes nothing.
+-- A frame's payload, found by index. Assumes nothing.
 use mathlib.Core.Path.{_≡_, sym, ap, _∙_}
-use mathlib.Core.List.{List, [], _∷_}
+use mathlib.Core.List.{List}
 use mathlib.Core.Option.{Option, some}
 use Prim.Native.Nat.{ℕ, _+_, _-_, _≤_, _<_}
-use native.Mathlib.Numerals.{add-one}
 use native.Mathlib.Omega.{arith}
-use lib.ListN.{length, take, drop, getD, length-drop, drop-of-length-le}
-use lib.Seq.{drop-cons, take-all}
+use lib.ListN.{length, take, drop, length-drop}
+use lib.Seq.{take-all}
 use Rattle.kiss_layout.specs.declared.Decoded.the-variants.{Payload, MalformedKissFrame}
 use Rattle.kiss_layout.specs.Unescape.{unescaped}
-use Rattle.kiss_layout.specs.Scan.{isFend, notFend, stretch, afterFends, runOf}
+use Rattle.kiss_layout.specs.Scan.{isFend, notFend, stretch, runOf}
 use Rattle.kiss_layout.specs.Read.{contentIn, payloadAt, decoded}
-use Rattle.kiss_layout.proofs.Scans.{after-fends, stretch-found, stretch-none}
-
-pub no-header : (f : List ℕ) {at : ℕ} → at ≡ runOf isFend f → length f ≤ at → afterFends f ≡ []
-no-header f {at} e h = after-fends f ∙ ap (λ (n : ℕ). drop n f) (sym e) ∙ drop-of-length-le f h
-
-pub header : (f : List ℕ) {at : ℕ} → at ≡ runOf isFend f → at < length f → afterFends f ≡ getD f at 0 ∷ drop (at + 1) f
-header f {at} e h = after-fends f ∙ ap (λ (n : ℕ). drop n f) (sym e) ∙ rw (add-one, drop-cons f at 0)
+use Rattle.kiss_layout.proofs.Scans.{no-header, header, stretch-found, stretch-none}
 
 -- ---- a payload, found by the number of FENDs at the front and the number n of bytes from the header to the next FEND
 

@@ -1,11 +1,11 @@
--- `lsf_fields::set_data_type` meets its contract. Assumes nothing.
+-- `lsf_setters::set_data_type` meets its contract. Assumes nothing.
 use borrow.Author.Needs.{needs}
 use Rattle.lsf_layout.specs.Bits.{dataTypeBits}
 use Rattle.protocol.specs.Kinds.{dataTypeNumber}
-use Rattle.lsf_fields.proofs.Small.{data-type-lt}
-use Rattle.lsf_fields.proofs.Frames.{set-bits}
-use Rattle.lsf_fields.proofs.set_data_type.Statement.{statement}
-use Rattle.lsf_fields.proofs.set_data_type.Tie as tie
+use Rattle.lsf_setters.proofs.Small.{data-type-lt}
+use Rattle.lsf_setters.proofs.Frames.{set-bits}
+use Rattle.lsf_setters.proofs.set_data_type.Statement.{statement}
+use Rattle.lsf_setters.proofs.set_data_type.Tie as tie
 
 returns : tie.Need-returns
 returns c =

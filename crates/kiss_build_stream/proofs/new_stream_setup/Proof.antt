@@ -1,11 +1,11 @@
--- `kiss_build::new_stream_setup` meets its contract. Assumes nothing.
+-- `kiss_build_stream::new_stream_setup` meets its contract. Assumes nothing.
 use mathlib.Core.Path.{_∙_}
 use borrow.Author.Needs.{needs}
 use Rattle.choice.specs.Pick.{tests}
 use Rattle.kiss_layout.specs.Build.{streamSetup, refusal}
 use Rattle.kiss_layout.proofs.Builds.{built-accepted, built-refused}
-use Rattle.kiss_build.proofs.new_stream_setup.Statement.{statement}
-use Rattle.kiss_build.proofs.new_stream_setup.Tie as tie
+use Rattle.kiss_build_stream.proofs.new_stream_setup.Statement.{statement}
+use Rattle.kiss_build_stream.proofs.new_stream_setup.Tie as tie
 
 returns : tie.Need-returns
 unfolding refusal

@@ -1,11 +1,11 @@
--- `lsf_fields::set_channel_access_number` meets its contract. Assumes nothing.
+-- `lsf_setters::set_channel_access_number` meets its contract. Assumes nothing.
 use Prim.Native.Nat.{_%_}
 use mathlib.Core.Path.{ap, _∙_}
 use borrow.Author.Needs.{needs}
 use Rattle.lsf_layout.specs.Bits.{channelBits, withBitsAt}
-use Rattle.lsf_fields.proofs.Frames.{set-type}
-use Rattle.lsf_fields.proofs.set_channel_access_number.Statement.{statement}
-use Rattle.lsf_fields.proofs.set_channel_access_number.Tie as tie
+use Rattle.lsf_setters.proofs.Frames.{set-type}
+use Rattle.lsf_setters.proofs.set_channel_access_number.Statement.{statement}
+use Rattle.lsf_setters.proofs.set_channel_access_number.Tie as tie
 
 returns : tie.Need-returns
 returns c =

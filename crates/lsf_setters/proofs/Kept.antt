@@ -6,9 +6,9 @@ use Rattle.lsf_layout.specs.Bytes.{typeField}
 use Rattle.lsf_layout.specs.Lsf.{fieldOf}
 use Rattle.lsf_layout.proofs.Fields.{bits-there, bits-below, bits-above}
 use Rattle.lsf_bytes.specs.Bytes.{retyped}
-use Rattle.lsf_fields.specs.Lsf.{withField}
-use Rattle.lsf_fields.specs.Promises.{SetIsRead, SetKeepsTheRest, SetIsSealed}
-use Rattle.lsf_fields.proofs.Frames.{type-read, addresses-kept, meta-kept, retyped-length}
+use Rattle.lsf_setters.specs.Lsf.{withField}
+use Rattle.lsf_setters.specs.Promises.{SetIsRead, SetKeepsTheRest, SetIsSealed}
+use Rattle.lsf_setters.proofs.Frames.{type-read, addresses-kept, meta-kept, retyped-length}
 
 -- ---- a field of the LSF's type is set
 

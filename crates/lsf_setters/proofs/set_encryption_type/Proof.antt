@@ -1,11 +1,11 @@
--- `lsf_fields::set_encryption_type` meets its contract. Assumes nothing.
+-- `lsf_setters::set_encryption_type` meets its contract. Assumes nothing.
 use borrow.Author.Needs.{needs}
 use Rattle.lsf_layout.specs.Bits.{encryptionBits}
 use Rattle.protocol.specs.Kinds.{encryptionNumber}
-use Rattle.lsf_fields.proofs.Small.{encryption-lt}
-use Rattle.lsf_fields.proofs.Frames.{set-bits}
-use Rattle.lsf_fields.proofs.set_encryption_type.Statement.{statement}
-use Rattle.lsf_fields.proofs.set_encryption_type.Tie as tie
+use Rattle.lsf_setters.proofs.Small.{encryption-lt}
+use Rattle.lsf_setters.proofs.Frames.{set-bits}
+use Rattle.lsf_setters.proofs.set_encryption_type.Statement.{statement}
+use Rattle.lsf_setters.proofs.set_encryption_type.Tie as tie
 
 returns : tie.Need-returns
 returns c =

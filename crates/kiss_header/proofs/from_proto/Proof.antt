@@ -1,10 +1,10 @@
--- `kiss_read::from_proto` meets its contract. Assumes nothing.
+-- `kiss_header::from_proto` meets its contract. Assumes nothing.
 use native.Mathlib.Omega.{arith}
 use Rattle.choice.specs.Pick.{pick}
 use Rattle.kiss_layout.specs.Read.{commandFor}
 use Rattle.kiss_layout.proofs.Commands.{unsupported}
-use Rattle.kiss_read.proofs.from_proto.Statement.{statement}
-use Rattle.kiss_read.proofs.from_proto.Tie as tie
+use Rattle.kiss_header.proofs.from_proto.Statement.{statement}
+use Rattle.kiss_header.proofs.from_proto.Tie as tie
 
 returns : tie.Need-returns
 unfolding commandFor pick

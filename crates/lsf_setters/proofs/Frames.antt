@@ -7,16 +7,10 @@ use native.Mathlib.Omega.{arith}
 use lib.ListN.{length, take, drop, length-append, length-drop}
 use lib.Seq.{take-at, drop-at, drop-drop, getD-drop, length-take-le}
 use Rattle.crc.specs.Crc.{twoBytes, crcOf, sealed}
-use Rattle.lsf_layout.specs.Bits.{Field, bitsAt, withBitsAt}
+use Rattle.lsf_layout.specs.Bits.{Field, withBitsAt}
 use Rattle.lsf_layout.specs.Bytes.{typeField}
-use Rattle.lsf_layout.specs.Lsf.{fieldOf}
 use Rattle.lsf_bytes.specs.Bytes.{meta, retyped}
-use Rattle.lsf_fields.specs.Lsf.{withField}
-
--- what a getter's code does: it takes a run of bits of the type
-pub field-read : (f : List ℕ) (k : Field) {n t : ℕ} → n ≡ bitsAt k t → t ≡ typeField f → n ≡ fieldOf k f
-unfolding fieldOf
-field-read f k e h = e ∙ ap (bitsAt k) h
+use Rattle.lsf_setters.specs.Lsf.{withField}
 
 -- what a setter's code does: it works out the new type, and has it put in
 pub set-type : {g : List ℕ} (f : List ℕ) (k : Field) (v t : ℕ) → g ≡ retyped t f → t ≡ withBitsAt k v (typeField f) → g ≡ withField k v f

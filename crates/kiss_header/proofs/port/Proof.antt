@@ -1,10 +1,10 @@
--- `kiss_read::port` meets its contract. Assumes nothing.
+-- `kiss_header::port` meets its contract. Assumes nothing.
 use mathlib.Core.Path.{sym, ap}
 use borrow.Author.Needs.{needs}
 use Rattle.kiss_layout.specs.Read.{portAt, portRead}
-use Rattle.kiss_read.proofs.Headers.{no-header, header}
-use Rattle.kiss_read.proofs.port.Statement.{statement}
-use Rattle.kiss_read.proofs.port.Tie as tie
+use Rattle.kiss_layout.proofs.Scans.{no-header, header}
+use Rattle.kiss_header.proofs.port.Statement.{statement}
+use Rattle.kiss_header.proofs.port.Tie as tie
 
 returns : tie.Need-returns
 unfolding portRead

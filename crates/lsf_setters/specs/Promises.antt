@@ -8,7 +8,7 @@ use Rattle.lsf_layout.specs.Bits.{Field}
 use Rattle.lsf_layout.specs.Bytes.{typeField}
 use Rattle.lsf_layout.specs.Lsf.{fieldOf}
 use Rattle.lsf_bytes.specs.Bytes.{meta}
-use Rattle.lsf_fields.specs.Lsf.{withField}
+use Rattle.lsf_setters.specs.Lsf.{withField}
 
 -- ---- a field of the LSF's type is set
 

@@ -1,11 +1,11 @@
--- `lsf_fields::set_mode` meets its contract. Assumes nothing.
+-- `lsf_setters::set_mode` meets its contract. Assumes nothing.
 use borrow.Author.Needs.{needs}
 use Rattle.lsf_layout.specs.Bits.{modeBits}
 use Rattle.protocol.specs.Kinds.{modeNumber}
-use Rattle.lsf_fields.proofs.Small.{mode-lt}
-use Rattle.lsf_fields.proofs.Frames.{set-bits}
-use Rattle.lsf_fields.proofs.set_mode.Statement.{statement}
-use Rattle.lsf_fields.proofs.set_mode.Tie as tie
+use Rattle.lsf_setters.proofs.Small.{mode-lt}
+use Rattle.lsf_setters.proofs.Frames.{set-bits}
+use Rattle.lsf_setters.proofs.set_mode.Statement.{statement}
+use Rattle.lsf_setters.proofs.set_mode.Tie as tie
 
 returns : tie.Need-returns
 returns c =
