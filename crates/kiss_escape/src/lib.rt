@@ -7,6 +7,7 @@ use kiss_layout::FEND;
 use kiss_layout::FESC;
 use kiss_layout::TFEND;
 use kiss_layout::TFESC;
+use kiss_length::escaped_len;
 ghost use mathlib.Core.Path.{_≡_};
 ghost use Prim.Native.Nat.{_+_, _≤_};
 ghost use lib.Dec.{eqb};
@@ -31,24 +32,6 @@ pub fn escape(src: &[u8], dst: &mut [u8]) -> Escaped
     }
     put_escaped(src, dst);
     Escaped::Wrote(n)
-}
-
-// How many bytes src takes once it is escaped.
-pub fn escaped_len(src: &[u8]) -> usize
-    ensures { λ r. ⌜ r ≡ length (esc (now (src .entry))) ⌝ }
-{
-    let mut n = 0;
-    let mut i = 0;
-    while i < src.len() {
-        let b = src[i];
-        i += 1;
-        if (b == FEND) | (b == FESC) {
-            n += 2;
-        } else {
-            n += 1;
-        }
-    }
-    n
 }
 
 // Writes src, escaped, at the start of dst, which has the room for it, and returns how many bytes that took. Eight bytes are done one by one before whole

@@ -1,9 +1,9 @@
 // One frame of KISS, as m17core's kiss.rs builds it: a header and a content, escaped, between two FEND. Each builder goes through here.
 use kiss_escape::escape;
-use kiss_escape::escaped_len;
 use kiss_layout::Built;
 use kiss_layout::Escaped;
 use kiss_layout::FEND;
+use kiss_length::escaped_len;
 ghost use mathlib.Core.Path.{_≡_};
 ghost use mathlib.Core.List.{_++_};
 ghost use Prim.Native.Nat.{_+_, _≤_};

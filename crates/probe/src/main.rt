@@ -272,7 +272,7 @@ fn bytes(kind: u8, a: &[u8], room: &mut [u8]) -> usize {
         11 => payload(a, room),
         12 => escaped(a, room),
         13 => kiss_unescape::unescape(a, room) % VALUES,
-        _ => kiss_escape::escaped_len(a) % VALUES,
+        _ => kiss_length::escaped_len(a) % VALUES,
     }
 }
 

@@ -25,7 +25,7 @@ pub fn read_kiss(tnc: Tnc, message: &[u8], target: &mut [u8]) -> TncRead
     let radio = tnc.radio;
     let state = radio.state;
     let outgoing = radio.outgoing;
-    let read = outgoing.read_kiss(message, target);
+    let read = outgoing_read::read_kiss(outgoing, message, target);
     let answer = read.answer;
     let rest = read.outgoing;
     let after = Radio {

@@ -1,4 +1,4 @@
--- `kiss_escape::escaped_len` meets its contract. The invariant says what is left to count. Assumes nothing.
+-- `kiss_length::escaped_len` meets its contract. The invariant says what is left to count. Assumes nothing.
 use Prim.Native.Nat.{_+_, _-_, _≤_}
 use mathlib.Core.Path.{_≡_, refl, ap}
 use native.Mathlib.Omega.{arith}
@@ -6,8 +6,8 @@ use borrow.Author.Needs.{needs}
 use lib.ListN.{length, drop}
 use Rattle.kiss_layout.specs.Escape.{esc}
 use Rattle.kiss_layout.proofs.Escapes.{esc-length, esc-at-special, esc-at-plain, esc-done}
-use Rattle.kiss_escape.proofs.escaped_len.Statement.{statement}
-use Rattle.kiss_escape.proofs.escaped_len.Tie as tie
+use Rattle.kiss_length.proofs.escaped_len.Statement.{statement}
+use Rattle.kiss_length.proofs.escaped_len.Tie as tie
 
 abbrev Inv-loop : tie.InvT-loop
 Inv-loop src n₀ i₀ n i = (i ≤ length src) × (n + length (esc (drop i src)) ≡ length (esc src))

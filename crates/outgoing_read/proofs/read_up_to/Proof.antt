@@ -1,8 +1,8 @@
--- `outgoing::Outgoing::read_up_to` meets its contract. Assumes nothing.
+-- `outgoing_read::read_up_to` meets its contract. Assumes nothing.
 use Rattle.choice.specs.Pick.{tests}
 use Rattle.outgoing.specs.Message.{readUpTo}
-use Rattle.outgoing.proofs.Outgoing.read_up_to.Statement.{statement}
-use Rattle.outgoing.proofs.Outgoing.read_up_to.Tie as tie
+use Rattle.outgoing_read.proofs.read_up_to.Statement.{statement}
+use Rattle.outgoing_read.proofs.read_up_to.Tie as tie
 
 returns : tie.Need-returns
 unfolding readUpTo
