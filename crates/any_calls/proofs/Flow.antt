@@ -13,10 +13,10 @@ use Rattle.kiss_layout.specs.declared.PortRead.the-variants.{Port, MalformedKis
 use Rattle.kiss_layout.specs.declared.CommandRead.{CommandRead}
 use Rattle.kiss_layout.specs.declared.CommandRead.the-variants.{Command, MalformedKissFrame as NoCommand, UnsupportedKissCommand as NoSuch}
 use Rattle.kiss_layout.specs.Read.{portRead, commandRead}
-use Rattle.kiss_buffer.specs.declared.WriteAnswer.{WriteAnswer}
-use Rattle.kiss_buffer.specs.declared.WriteAnswer.the-variants.{Done, Full, WrongStore as NoRoom, OutOfBounds as NoState}
-use Rattle.kiss_buffer.specs.Calls.{writeNumber, written}
-use Rattle.kiss_buffer.specs.Promises.{afterWritten}
+use Rattle.kiss_calls.specs.declared.WriteAnswer.{WriteAnswer}
+use Rattle.kiss_calls.specs.declared.WriteAnswer.the-variants.{Done, Full, WrongStore as NoRoom, OutOfBounds as NoState}
+use Rattle.kiss_calls.specs.Calls.{writeNumber, written}
+use Rattle.kiss_calls.specs.Promises.{afterWritten}
 use Rattle.packets.specs.declared.PacketQueue.{PacketQueue}
 use Rattle.packets.specs.Queue.{pushedBasic, pushedFull}
 use Rattle.streams.specs.declared.StreamQueue.{StreamQueue}

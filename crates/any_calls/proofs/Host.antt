@@ -8,10 +8,10 @@ use lib.Dec.{eqb}
 use lib.ListN.{length}
 use borrow.Author.Tests.{eq-eqb, leb-true}
 use Rattle.choice.specs.Pick.{pick, pick-all, and-fst, and-snd, and-both}
-use Rattle.kiss_buffer.specs.declared.WriteAnswer.{WriteAnswer}
-use Rattle.kiss_buffer.specs.declared.WriteAnswer.the-variants.{WrongStore, OutOfBounds}
+use Rattle.kiss_calls.specs.declared.WriteAnswer.{WriteAnswer}
+use Rattle.kiss_calls.specs.declared.WriteAnswer.the-variants.{WrongStore, OutOfBounds}
 use Rattle.kiss_reader.specs.Reader.{STORE as READER}
-use Rattle.kiss_buffer.specs.Calls.{soundBuffer, writeNumber}
+use Rattle.kiss_calls.specs.Calls.{soundBuffer, writeNumber}
 use Rattle.outgoing.specs.Message.{soundMessage, hostRead, hostNumber}
 use Rattle.outgoing.proofs.Kept as outgoing
 use Rattle.packets.specs.Queue.{STORE as PACKETS}

@@ -14,8 +14,8 @@ use Rattle.channel.specs.declared.ChannelAnswer.the-variants.{Done as Set, OutO
 use Rattle.channel.specs.declared.ChannelSet.{ChannelSet}
 use Rattle.channel.specs.Access.{LAST, soundChannel, withClock, isSet, clockSet, carrierSet, setNumber}
 use Rattle.channel.proofs.Kept as channel
-use Rattle.kiss_buffer.specs.Calls.{soundBuffer}
-use Rattle.kiss_buffer.proofs.Boxes.{new-sound}
+use Rattle.kiss_calls.specs.Calls.{soundBuffer}
+use Rattle.kiss_calls.proofs.Boxes.{new-sound}
 use Rattle.packets.specs.Queue.{STORE as PACKETS}
 use Rattle.streams.specs.Queue.{STORE as STREAMS}
 use Rattle.radio.specs.Radio.{soundRadio, airNumber}

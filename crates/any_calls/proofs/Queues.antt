@@ -9,8 +9,8 @@ use Rattle.choice.specs.Pick.{pick, and}
 use Rattle.channel.specs.Access.{soundChannel}
 use Rattle.channel.proofs.Kept as channel
 use Rattle.protocol.specs.declared.StreamFrame.{StreamFrame}
-use Rattle.kiss_buffer.specs.Calls.{soundBuffer}
-use Rattle.kiss_buffer.proofs.Boxes.{new-sound}
+use Rattle.kiss_calls.specs.Calls.{soundBuffer}
+use Rattle.kiss_calls.proofs.Boxes.{new-sound}
 use Rattle.packets.specs.declared.PacketRead.{PacketRead}
 use Rattle.packets.specs.declared.ReadAnswer.{ReadAnswer}
 use Rattle.packets.specs.declared.ReadAnswer.the-variants.{Nothing as NoPiece, Lsf as PacketLsf, Packet as Piece, End, WrongStore as NoPacketStore, OutOfBounds as NoPacketState}

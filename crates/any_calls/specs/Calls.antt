@@ -7,7 +7,7 @@ use Rattle.protocol.specs.declared.PacketFrame.{PacketFrame}
 use Rattle.protocol.specs.declared.StreamFrame.{StreamFrame}
 use Rattle.channel.specs.declared.Channel.{Channel}
 use Rattle.channel.specs.Access.{newChannel, carrierSet, setNumber}
-use Rattle.kiss_buffer.specs.Calls.{writeNumber}
+use Rattle.kiss_calls.specs.Calls.{writeNumber}
 use Rattle.outgoing.specs.Message.{hostNumber}
 use Rattle.radio.specs.declared.Heard.{Heard}
 use Rattle.radio.specs.Radio.{airNumber}

@@ -8,7 +8,7 @@ use mathlib.Core.List.{List, [], _∷_}
 use lib.ListN.{length}
 use Rattle.channel.specs.Access.{soundChannel}
 use Rattle.kiss_reader.specs.Reader.{STORE as READER}
-use Rattle.kiss_buffer.specs.Calls.{soundBuffer}
+use Rattle.kiss_calls.specs.Calls.{soundBuffer}
 use Rattle.packets.specs.Queue.{STORE as PACKETS}
 use Rattle.streams.specs.Queue.{STORE as STREAMS}
 use Rattle.radio.specs.Radio.{RX, MESSAGE}

@@ -10,9 +10,9 @@ use Rattle.kiss_layout.specs.declared.PortRead.the-variants.{Port, MalformedKis
 use Rattle.kiss_layout.specs.declared.CommandRead.{CommandRead}
 use Rattle.kiss_layout.specs.declared.CommandRead.the-variants.{Command, MalformedKissFrame as NoCommand, UnsupportedKissCommand as NoSuch}
 use Rattle.kiss_layout.specs.Read.{portRead, commandRead}
-use Rattle.kiss_buffer.specs.declared.WriteAnswer.{WriteAnswer}
-use Rattle.kiss_buffer.specs.declared.WriteAnswer.the-variants.{Done, Full, WrongStore as NoRoom, OutOfBounds as NoState}
-use Rattle.kiss_buffer.specs.Promises.{afterWritten}
+use Rattle.kiss_calls.specs.declared.WriteAnswer.{WriteAnswer}
+use Rattle.kiss_calls.specs.declared.WriteAnswer.the-variants.{Done, Full, WrongStore as NoRoom, OutOfBounds as NoState}
+use Rattle.kiss_calls.specs.Promises.{afterWritten}
 use Rattle.packets.specs.Frames.{Packet, AirFrame, setup, piece}
 use Rattle.packets.specs.Queue.{madeBasic, madeFull, pushedBasic, pushedFull}
 use Rattle.packet_rule.specs.Left.{acceptedBy}

@@ -8,9 +8,9 @@ use Rattle.choice.specs.Pick.{pick-all}
 use Rattle.channel.specs.declared.ChannelAnswer.{ChannelAnswer}
 use Rattle.channel.specs.declared.ChannelAnswer.the-variants.{Done as Set, OutOfRange as SetRange, OutOfBounds as SetBounds}
 use Rattle.channel.specs.Access.{carrierSet, setNumber}
-use Rattle.kiss_buffer.specs.declared.WriteAnswer.{WriteAnswer}
-use Rattle.kiss_buffer.specs.declared.WriteAnswer.the-variants.{Done as Written, Full, WrongStore as WriteStore, OutOfBounds as WriteBounds}
-use Rattle.kiss_buffer.specs.Calls.{writeNumber}
+use Rattle.kiss_calls.specs.declared.WriteAnswer.{WriteAnswer}
+use Rattle.kiss_calls.specs.declared.WriteAnswer.the-variants.{Done as Written, Full, WrongStore as WriteStore, OutOfBounds as WriteBounds}
+use Rattle.kiss_calls.specs.Calls.{writeNumber}
 use Rattle.outgoing.specs.declared.HostAnswer.{HostAnswer}
 use Rattle.outgoing.specs.declared.HostAnswer.the-variants.{Done as Read, WrongStore as ReadStore, OutOfBounds as ReadBounds}
 use Rattle.outgoing.specs.Message.{hostNumber}

@@ -13,13 +13,13 @@ use Rattle.channel.specs.declared.Channel.{Channel}
 use Rattle.channel.specs.Access.{soundChannel}
 use Rattle.kiss_layout.specs.Scan.{notFend}
 use Rattle.kiss_reader.specs.Reader.{Reader, STORE, flush, next, afterNext}
-use Rattle.kiss_buffer.specs.declared.WriteAnswer.the-variants.{Done}
-use Rattle.kiss_buffer.specs.declared.Written.{Written}
-use Rattle.kiss_buffer.specs.declared.NextFrame.{NextFrame}
-use Rattle.kiss_buffer.specs.Calls.{readerOf, bufferOf, soundBuffer, written, found}
-use Rattle.kiss_buffer.specs.Inside.{accepted}
-use Rattle.kiss_buffer.specs.Promises.{Box, afterNextFrame, Sound}
-use Rattle.kiss_buffer.proofs.Cases.{next-sound, written-roomy}
+use Rattle.kiss_calls.specs.declared.WriteAnswer.the-variants.{Done}
+use Rattle.kiss_calls.specs.declared.Written.{Written}
+use Rattle.kiss_calls.specs.declared.NextFrame.{NextFrame}
+use Rattle.kiss_calls.specs.Calls.{readerOf, bufferOf, soundBuffer, written, found}
+use Rattle.kiss_calls.specs.Inside.{accepted}
+use Rattle.kiss_calls.specs.Promises.{Box, afterNextFrame, Sound}
+use Rattle.kiss_calls.proofs.Cases.{next-sound, written-roomy}
 use Rattle.host_record.specs.declared.Host.{Host}
 use Rattle.host_record.specs.Host.{soundHost}
 use Rattle.tnc_core.specs.declared.Tnc.{Tnc}

@@ -5,7 +5,7 @@ use mathlib.Core.List.{List, _++_}
 use lib.ListN.{length, drop}
 use Rattle.store.specs.Room.{over}
 use Rattle.channel.specs.declared.Channel.{Channel}
-use Rattle.kiss_buffer.specs.Calls.{writeNumber}
+use Rattle.kiss_calls.specs.Calls.{writeNumber}
 use Rattle.outgoing.specs.Message.{hostNumber}
 use Rattle.tnc.specs.declared.TncWritten.{TncWritten}
 use Rattle.tnc_read.specs.declared.TncRead.{TncRead}

@@ -3,7 +3,7 @@ use Prim.Native.Nat.{ℕ}
 use mathlib.Core.List.{List}
 use Rattle.store.specs.Room.{over}
 use Rattle.channel.specs.declared.Channel.{Channel}
-use Rattle.kiss_buffer.specs.Calls.{writeNumber}
+use Rattle.kiss_calls.specs.Calls.{writeNumber}
 use Rattle.outgoing.specs.Message.{hostNumber}
 use Rattle.tnc.specs.declared.TncWritten.{TncWritten}
 use Rattle.tnc_read.specs.declared.TncRead.{TncRead}

@@ -2,7 +2,7 @@
 use channel::Channel;
 use event_answer::EventBox;
 use event_answer::LINE_LEN;
-use kiss_buffer::KissBuffer;
+use kiss_calls::KissBuffer;
 use kiss_layout::FEND;
 use tnc_core::Tnc;
 ghost use mathlib.Core.Path.{_≡_};

@@ -3,8 +3,8 @@ use channel::AccessAnswer;
 use channel::Channel;
 use io::print_decimal;
 use io::print_hex;
-use kiss_buffer::KissBuffer;
-use kiss_buffer::NextAnswer;
+use kiss_calls::KissBuffer;
+use kiss_calls::NextAnswer;
 use libc::STDOUT_FILENO;
 use lich::LichCollection;
 use lich::SegmentAnswer;
@@ -103,9 +103,9 @@ struct Answered {
 
 fn fed(reader: KissBuffer, byte: u8, store: &mut [u8; 1713]) -> Answered {
     let offered = [byte];
-    let written = reader.write(&offered, store);
+    let written = kiss_buffer::write(reader, &offered, store);
     let before = written.buffer;
-    let next = before.next_frame(store);
+    let next = kiss_buffer::next_frame(before, store);
     let buffer = next.buffer;
     let answer = next.answer;
     match answer {

@@ -2,9 +2,9 @@
 use Prim.Native.Nat.{ℕ}
 use mathlib.Core.Path.{_≡_, ap, _∙_}
 use mathlib.Core.List.{List}
-use Rattle.kiss_buffer.specs.declared.NextFrame.{NextFrame}
-use Rattle.kiss_buffer.specs.declared.Written.{Written}
-use Rattle.kiss_buffer.specs.Calls.{writeNumber}
+use Rattle.kiss_calls.specs.declared.NextFrame.{NextFrame}
+use Rattle.kiss_calls.specs.declared.Written.{Written}
+use Rattle.kiss_calls.specs.Calls.{writeNumber}
 use Rattle.link_numbers.specs.declared.ReaderAnswer.{ReaderAnswer}
 use Rattle.link_numbers.specs.Numbers.{kept, countedWrite, nextCount, countedNext}
 

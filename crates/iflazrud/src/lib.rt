@@ -1,5 +1,5 @@
 // The link for hosts in C and Rust: calls of the crates below under C names, with document 01's numbers in place of enums. `rt staticlib iflazrud` writes the archive.
-use kiss_buffer::KissBuffer;
+use kiss_calls::KissBuffer;
 use link_numbers::Counted;
 use link_numbers::Reader;
 use link_numbers::ReaderAnswer;
@@ -12,7 +12,7 @@ ghost use Rattle.crc.specs.Crc.{crcOf};
 ghost use Rattle.kiss_layout.specs.Escape.{escaped};
 ghost use Rattle.kiss_layout.specs.Unescape.{unescaped};
 ghost use Rattle.kiss_layout.specs.Build.{fullPacket, built};
-ghost use Rattle.kiss_buffer.specs.Calls.{written, nextFrame};
+ghost use Rattle.kiss_calls.specs.Calls.{written, nextFrame};
 ghost use Rattle.link_numbers.specs.Numbers.{countedEscape, countedBuild, countedWrite, countedNext};
 
 #[no_mangle]
@@ -55,7 +55,7 @@ pub extern "C" fn iflazrud_reader_write(
         filled: reader.filled,
         taken: reader.taken,
     };
-    write_count(buffer.write(offered, store))
+    write_count(kiss_buffer::write(buffer, offered, store))
 }
 
 #[no_mangle]
@@ -66,7 +66,7 @@ pub extern "C" fn iflazrud_reader_next(reader: Reader, store: &mut [u8]) -> Read
         filled: reader.filled,
         taken: reader.taken,
     };
-    let next = buffer.next_frame(store);
+    let next = kiss_buffer::next_frame(buffer, store);
     let answer = next.answer;
     let after = next.buffer;
     next_count(answer, after)

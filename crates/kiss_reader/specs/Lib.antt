@@ -1,4 +1,5 @@
 pub mod Meaning
 pub mod Reader
+pub mod Front
 pub mod Inside
 pub mod Promises

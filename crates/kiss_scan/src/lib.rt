@@ -6,7 +6,7 @@ ghost use mathlib.Core.Path.{_≡_};
 ghost use lib.ListN.{length};
 ghost use Rattle.kiss_reader.specs.Reader.{settle, front, isSome};
 ghost use Rattle.kiss_reader.specs.Inside.{settleAt};
-ghost use Rattle.kiss_scan.specs.Front.{standsFirst, orEmpty};
+ghost use Rattle.kiss_reader.specs.Front.{standsFirst, orEmpty};
 
 // Where the last FEND of the first run of FENDs stands; the length where there is no FEND.
 pub fn settle_at(h: &[u8]) -> usize

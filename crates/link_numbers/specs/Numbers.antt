@@ -5,12 +5,12 @@ use Rattle.kiss_layout.specs.declared.Escaped.{Escaped}
 use Rattle.kiss_layout.specs.declared.Escaped.the-variants.{Wrote, NoRoom as NoRoomFor}
 use Rattle.kiss_layout.specs.declared.Built.{Built}
 use Rattle.kiss_layout.specs.declared.Built.the-variants.{Frame, PayloadTooBig, LsfWrongSize, OutOfRange, NoRoom}
-use Rattle.kiss_buffer.specs.declared.KissBuffer.{KissBuffer}
-use Rattle.kiss_buffer.specs.declared.Written.{Written}
-use Rattle.kiss_buffer.specs.declared.NextAnswer.{NextAnswer}
-use Rattle.kiss_buffer.specs.declared.NextAnswer.the-variants.{Frame as Whole, Nothing, WrongStore, OutOfBounds}
-use Rattle.kiss_buffer.specs.declared.NextFrame.{NextFrame}
-use Rattle.kiss_buffer.specs.Calls.{writeNumber}
+use Rattle.kiss_calls.specs.declared.KissBuffer.{KissBuffer}
+use Rattle.kiss_calls.specs.declared.Written.{Written}
+use Rattle.kiss_calls.specs.declared.NextAnswer.{NextAnswer}
+use Rattle.kiss_calls.specs.declared.NextAnswer.the-variants.{Frame as Whole, Nothing, WrongStore, OutOfBounds}
+use Rattle.kiss_calls.specs.declared.NextFrame.{NextFrame}
+use Rattle.kiss_calls.specs.Calls.{writeNumber}
 use Rattle.link_numbers.specs.declared.Counted.{Counted}
 use Rattle.link_numbers.specs.declared.Reader.{Reader}
 use Rattle.link_numbers.specs.declared.ReaderAnswer.{ReaderAnswer}

@@ -1,12 +1,12 @@
 // What the calls that a host links answer: document 01's numbers in place of enums, with a count beside them.
-use kiss_buffer::KissBuffer;
-use kiss_buffer::NextAnswer;
-use kiss_buffer::WriteAnswer;
-use kiss_buffer::Written;
+use kiss_calls::KissBuffer;
+use kiss_calls::NextAnswer;
+use kiss_calls::WriteAnswer;
+use kiss_calls::Written;
 use kiss_layout::Built;
 use kiss_layout::Escaped;
 ghost use mathlib.Core.Path.{_≡_};
-ghost use Rattle.kiss_buffer.specs.Calls.{writeNumber};
+ghost use Rattle.kiss_calls.specs.Calls.{writeNumber};
 ghost use Rattle.link_numbers.specs.Numbers.{escapeCount, buildCount, kept, nextCount};
 
 // A number of document 01, and how many bytes where it is 0.

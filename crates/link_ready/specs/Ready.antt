@@ -3,8 +3,8 @@ use Prim.Native.Nat.{ℕ}
 use mathlib.Core.Bool.{Bool, true, false}
 use lib.Dec.{eqb}
 use Rattle.choice.specs.Pick.{and}
-use Rattle.kiss_buffer.specs.declared.WriteAnswer.{WriteAnswer}
-use Rattle.kiss_buffer.specs.declared.WriteAnswer.the-variants.{Done, Full, WrongStore, OutOfBounds}
+use Rattle.kiss_calls.specs.declared.WriteAnswer.{WriteAnswer}
+use Rattle.kiss_calls.specs.declared.WriteAnswer.the-variants.{Done, Full, WrongStore, OutOfBounds}
 use Rattle.kiss_reader.specs.Reader.{STORE as READER}
 use Rattle.host_record.specs.Host.{storesFit}
 

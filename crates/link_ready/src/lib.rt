@@ -1,7 +1,7 @@
 // What a write from the host asks: before it touches anything, whether its stores have their lengths; and behind the reader, whether that took the bytes.
 use host_record::stores_fit;
-use kiss_buffer::MAX_FRAME_LEN;
-use kiss_buffer::WriteAnswer;
+use kiss_calls::MAX_FRAME_LEN;
+use kiss_calls::WriteAnswer;
 ghost use mathlib.Core.Path.{_≡_};
 ghost use Rattle.link_ready.specs.Ready.{linkFits, wasTaken};
 

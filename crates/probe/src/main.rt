@@ -1,9 +1,9 @@
 // Answers requests, one call each, for the run against the Rust in compare/. A request is eight bytes (kind, length of the room, what the room's bytes are counted up
 // from, lengths of two arguments; lengths are two bytes, high byte first) and the two arguments. An answer is document 01's number, a value of two bytes and the
 // whole room, so that bytes that were not written are seen too. Anything that is no request ends the program.
-use kiss_buffer::KissBuffer;
-use kiss_buffer::NextAnswer;
-use kiss_buffer::WriteAnswer;
+use kiss_calls::KissBuffer;
+use kiss_calls::NextAnswer;
+use kiss_calls::WriteAnswer;
 use kiss_layout::Built;
 use kiss_layout::CommandRead;
 use kiss_layout::Decoded;
@@ -424,7 +424,7 @@ fn with_reader(s: Session, reader: KissBuffer, answer: usize) -> Session {
 
 fn offer(s: Session, a: &[u8], store: &mut [u8; 1713]) -> Session {
     let reader = s.reader;
-    let w = reader.write(a, store);
+    let w = kiss_buffer::write(reader, a, store);
     let answer = w.answer;
     let after = w.buffer;
     with_reader(s, after, write_number(answer, w.count))
@@ -432,7 +432,7 @@ fn offer(s: Session, a: &[u8], store: &mut [u8; 1713]) -> Session {
 
 fn take(s: Session, room: &mut [u8], store: &mut [u8; 1713]) -> Session {
     let reader = s.reader;
-    let next = reader.next_frame(store);
+    let next = kiss_buffer::next_frame(reader, store);
     let answer = next.answer;
     let after = next.buffer;
     put_frame(after, store, room);
@@ -440,7 +440,7 @@ fn take(s: Session, room: &mut [u8], store: &mut [u8; 1713]) -> Session {
 }
 
 fn put_frame(reader: KissBuffer, store: &[u8], room: &mut [u8]) {
-    put(reader.frame(store), room);
+    put(kiss_buffer::frame(reader, store), room);
 }
 
 fn show(s: Session, room: &mut [u8], store: &[u8]) -> Session {

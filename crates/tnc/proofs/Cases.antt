@@ -7,7 +7,7 @@ use lib.ListN.{length}
 use borrow.Author.Tests.{eq-eqb}
 use Rattle.choice.specs.Pick.{pick}
 use Rattle.channel.specs.declared.Channel.{Channel}
-use Rattle.kiss_buffer.specs.declared.WriteAnswer.the-variants.{WrongStore as NoRoom, OutOfBounds as NoState}
+use Rattle.kiss_calls.specs.declared.WriteAnswer.the-variants.{WrongStore as NoRoom, OutOfBounds as NoState}
 use Rattle.kiss_reader.specs.Reader.{STORE as READER}
 use Rattle.packets.specs.Queue.{STORE as PACKETS}
 use Rattle.streams.specs.Queue.{STORE as STREAMS}

@@ -3,7 +3,7 @@
 // `tnc_transmit`; set_now and set_tx_end_time are calls of `tnc_clock`, new and ptt of `Tnc`, set_data_carrier_detect one of `Channel`.
 use channel::Channel;
 use host_record::Host;
-use kiss_buffer::WriteAnswer;
+use kiss_calls::WriteAnswer;
 use link_ready::link_fits;
 use tnc_core::Tnc;
 use tnc_host::KissWritten;

@@ -4,7 +4,7 @@ use mathlib.Core.Bool.{Bool, false, not}
 use lib.Dec.{leb}
 use Rattle.choice.specs.Pick.{pick, and}
 use Rattle.kiss_reader.specs.Reader.{STORE as READER, newReader}
-use Rattle.kiss_buffer.specs.Calls.{bufferOf}
+use Rattle.kiss_calls.specs.Calls.{bufferOf}
 use Rattle.outgoing.specs.Message.{noMessage}
 use Rattle.sending.specs.Sending.{newSending, soundSending}
 use Rattle.state.specs.declared.State.{State}

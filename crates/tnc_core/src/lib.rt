@@ -1,6 +1,6 @@
 // The TNC's record, as m17core's SoftTnc but for its large bytes and its channel, which stand in stores and a record of the caller's; and its bounds.
-use kiss_buffer::KissBuffer;
-use kiss_buffer::MAX_FRAME_LEN;
+use kiss_calls::KissBuffer;
+use kiss_calls::MAX_FRAME_LEN;
 use outgoing::Outgoing;
 use radio::Radio;
 use sending::Sending;

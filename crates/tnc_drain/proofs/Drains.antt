@@ -7,10 +7,10 @@ use mathlib.Core.List.{List, [], _∷_, append-nil}
 use lib.ListN.{length}
 use Rattle.kiss_reader.specs.Meaning.{framesOf}
 use Rattle.kiss_reader.specs.Reader.{Reader, flush, isSome, next, afterNext}
-use Rattle.kiss_buffer.specs.Calls.{frameIn}
-use Rattle.kiss_buffer.specs.Promises.{Box as ReaderBox, afterNextFrame, Drain, none-left, handed-out, Sound}
+use Rattle.kiss_calls.specs.Calls.{frameIn}
+use Rattle.kiss_calls.specs.Promises.{Box as ReaderBox, afterNextFrame, Drain, none-left, handed-out, Sound}
 use Rattle.kiss_reader.proofs.Steps.{next-frames, search-frames, still-after, still-ends, next-shorter}
-use Rattle.kiss_buffer.proofs.Boxes.{reading, held-short, next-answer, next-reads, none-answered, some-answered, next-sound, next-frame}
+use Rattle.kiss_calls.proofs.Boxes.{reading, held-short, next-answer, next-reads, none-answered, some-answered, next-sound, next-frame}
 use Rattle.host_frame.specs.Promises.{Box as HostBox, after}
 use Rattle.tnc_drain.specs.declared.Drained.{Drained}
 use Rattle.tnc_drain.specs.Drain.{framesHeld, passed, allTaken, drained}

@@ -1,11 +1,11 @@
 -- What the whole frames do that the reader holds, from document 01's "The reader's meaning" and "From the host". Assumes nothing.
 use Prim.Native.Nat.{ℕ}
 use mathlib.Core.List.{List, [], _∷_}
-use Rattle.kiss_buffer.specs.declared.KissBuffer.{KissBuffer}
+use Rattle.kiss_calls.specs.declared.KissBuffer.{KissBuffer}
 use Rattle.kiss_reader.specs.Meaning.{framesOf}
 use Rattle.kiss_reader.specs.Reader.{flush}
-use Rattle.kiss_buffer.specs.Calls.{readerOf}
-use Rattle.kiss_buffer.specs.Promises.{Box as ReaderBox, afterNextFrame}
+use Rattle.kiss_calls.specs.Calls.{readerOf}
+use Rattle.kiss_calls.specs.Promises.{Box as ReaderBox, afterNextFrame}
 use Rattle.host_record.specs.declared.Host.{Host}
 use Rattle.host_frame.specs.Promises.{Box as HostBox, after}
 use Rattle.tnc_drain.specs.declared.Drained.{Drained}

@@ -1,6 +1,6 @@
 // What is left once every whole frame that the reader holds was taken from it and obeyed. `tnc_host` does it.
 use host_record::Host;
-use kiss_buffer::KissBuffer;
+use kiss_calls::KissBuffer;
 
 pub struct Drained {
     pub buffer: KissBuffer,

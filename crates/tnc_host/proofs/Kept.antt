@@ -8,17 +8,17 @@ use lib.Dec.{eqb}
 use borrow.Author.Tests.{eqb-false}
 use lib.ListN.{length, take, drop}
 use Rattle.choice.specs.Pick.{pick-all}
-use Rattle.kiss_buffer.specs.declared.WriteAnswer.{WriteAnswer}
-use Rattle.kiss_buffer.specs.declared.WriteAnswer.the-variants.{Done, Full, WrongStore, OutOfBounds}
-use Rattle.kiss_buffer.specs.declared.Written.{Written}
+use Rattle.kiss_calls.specs.declared.WriteAnswer.{WriteAnswer}
+use Rattle.kiss_calls.specs.declared.WriteAnswer.the-variants.{Done, Full, WrongStore, OutOfBounds}
+use Rattle.kiss_calls.specs.declared.Written.{Written}
 use Rattle.kiss_reader.specs.Meaning.{framesOf}
 use Rattle.kiss_reader.specs.Reader.{STORE as READER, refused as refusedBy}
-use Rattle.kiss_buffer.specs.Calls.{soundBuffer, writes, written, writeNumber}
-use Rattle.kiss_buffer.specs.Promises.{Box as ReaderBox, afterWritten, Drain, Run, over as all-read, write as one-read, Sound as ReaderSound}
-use Rattle.kiss_buffer.proofs.Kept as reader
+use Rattle.kiss_calls.specs.Calls.{soundBuffer, writes, written, writeNumber}
+use Rattle.kiss_calls.specs.Promises.{Box as ReaderBox, afterWritten, Drain, Run, over as all-read, write as one-read, Sound as ReaderSound}
+use Rattle.kiss_calls.proofs.Kept as reader
 use Rattle.kiss_reader.proofs.Steps.{Still, still-flush, still-ends}
-use Rattle.kiss_buffer.proofs.Boxes.{reading, new-sound, write-sound}
-use Rattle.kiss_buffer.proofs.Runs.{drain-exists, drain-still, run-frames}
+use Rattle.kiss_calls.proofs.Boxes.{reading, new-sound, write-sound}
+use Rattle.kiss_calls.proofs.Runs.{drain-exists, drain-still, run-frames}
 use Rattle.packets.specs.Queue.{STORE as PACKETS}
 use Rattle.streams.specs.Queue.{STORE as STREAMS}
 use Rattle.host_record.specs.Host.{soundHost}

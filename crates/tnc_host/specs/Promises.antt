@@ -5,11 +5,11 @@ use mathlib.Core.Logic.{_≢_}
 use mathlib.Core.Path.{_≡_}
 use mathlib.Core.List.{List, []}
 use lib.ListN.{length, take, drop}
-use Rattle.kiss_buffer.specs.declared.WriteAnswer.the-variants.{Done}
+use Rattle.kiss_calls.specs.declared.WriteAnswer.the-variants.{Done}
 use Rattle.kiss_reader.specs.Meaning.{framesOf}
 use Rattle.kiss_reader.specs.Reader.{STORE as READER}
-use Rattle.kiss_buffer.specs.Calls.{writeNumber}
-use Rattle.kiss_buffer.specs.Promises.{Box as ReaderBox, newBox, Sound as ReaderSound}
+use Rattle.kiss_calls.specs.Calls.{writeNumber}
+use Rattle.kiss_calls.specs.Promises.{Box as ReaderBox, newBox, Sound as ReaderSound}
 use Rattle.host_frame.specs.Promises.{Box as HostBox, Sound as HostSound}
 use Rattle.tnc_host.specs.declared.KissWritten.{KissWritten}
 use Rattle.tnc_drain.specs.Drain.{readerBox, hostBox, framesHeld, allTaken}

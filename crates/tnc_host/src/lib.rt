@@ -1,12 +1,12 @@
 // Bytes from the host, as m17core's write_kiss takes them: the reader cuts them into frames, and each is obeyed until none is left.
 use host_record::Host;
-use kiss_buffer::KissBuffer;
-use kiss_buffer::WriteAnswer;
+use kiss_calls::KissBuffer;
+use kiss_calls::WriteAnswer;
 use link_ready::link_fits;
 use link_ready::was_taken;
 use tnc_drain::Drained;
 ghost use mathlib.Core.Path.{_≡_};
-ghost use Rattle.kiss_buffer.specs.Promises.{Sound};
+ghost use Rattle.kiss_calls.specs.Promises.{Sound};
 ghost use Rattle.host_frame.specs.Promises.{Sound as HostSound};
 ghost use Rattle.tnc_drain.specs.Drain.{readerBox, hostBox, drained};
 ghost use Rattle.tnc_host.specs.Bytes.{kissWritten};
@@ -35,7 +35,7 @@ pub fn write_kiss(
     if !host.is_sound() {
         return refuse(WriteAnswer::OutOfBounds, buffer, host);
     }
-    let written = buffer.write(buf, reader);
+    let written = kiss_buffer::write(buffer, buf, reader);
     let answer = written.answer;
     let held = written.buffer;
     if !was_taken(answer) {
@@ -66,7 +66,7 @@ fn take_frames(
     let mut held = buffer;
     let mut obeyed = host;
     loop {
-        let next = held.next_frame(reader);
+        let next = kiss_buffer::next_frame(held, reader);
         held = next.buffer;
         if !held.taken {
             break Drained {
@@ -74,7 +74,7 @@ fn take_frames(
                 host: obeyed,
             };
         }
-        let frame = held.frame(reader);
+        let frame = kiss_buffer::frame(held, reader);
         let taken = host_frame::take_frame(obeyed, frame, packets, streams);
         obeyed = taken.host;
     }

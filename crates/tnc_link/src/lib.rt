@@ -2,7 +2,7 @@
 use channel::Channel;
 use event_answer::Applied;
 use event_answer::EventBox;
-use kiss_buffer::KissBuffer;
+use kiss_calls::KissBuffer;
 use outgoing::Outgoing;
 use radio::Radio;
 use saved_state::is_state;

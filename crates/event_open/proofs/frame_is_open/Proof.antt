@@ -3,7 +3,7 @@ use mathlib.Core.Path.{sym, ap, _∙_}
 use borrow.Author.Needs.{needs}
 use lib.ListN.{length-drop}
 use Rattle.kiss_layout.specs.Scan.{notFend, runOf}
-use Rattle.kiss_scan.proofs.Fronts.{to-the-end}
+use Rattle.kiss_reader.proofs.Fronts.{to-the-end}
 use Rattle.event_open.proofs.Opens.{none-held, not-begun, as-scanned}
 use Rattle.event_open.proofs.frame_is_open.Statement.{statement}
 use Rattle.event_open.proofs.frame_is_open.Tie as tie

@@ -9,10 +9,10 @@ use borrow.Author.Needs.{needs}
 use lib.ListN.{length, take, length-take}
 use Rattle.store.specs.Room.{over}
 use Rattle.store.proofs.Copies.{copied-in}
-use Rattle.kiss_buffer.specs.declared.WriteAnswer.the-variants.{Done}
+use Rattle.kiss_calls.specs.declared.WriteAnswer.the-variants.{Done}
 use Rattle.kiss_reader.specs.Reader.{STORE}
-use Rattle.kiss_buffer.specs.Inside.{accepted}
-use Rattle.kiss_buffer.proofs.Inner.{behind-kept}
+use Rattle.kiss_calls.specs.Inside.{accepted}
+use Rattle.kiss_calls.proofs.Inner.{behind-kept}
 use Rattle.kiss_buffer.proofs.accept.Statement.{statement}
 use Rattle.kiss_buffer.proofs.accept.Tie as tie
 

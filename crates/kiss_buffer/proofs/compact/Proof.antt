@@ -8,8 +8,8 @@ use lib.ListN.{length, take, drop, length-take, length-drop}
 use Rattle.store.specs.Room.{over}
 use Rattle.store.proofs.Copies.{shifted-in}
 use Rattle.kiss_reader.specs.Reader.{settle}
-use Rattle.kiss_buffer.specs.Inside.{compacted}
-use Rattle.kiss_buffer.proofs.Inner.{settled-part, settled-within}
+use Rattle.kiss_calls.specs.Inside.{compacted}
+use Rattle.kiss_calls.proofs.Inner.{settled-part, settled-within}
 use Rattle.kiss_buffer.proofs.compact.Statement.{statement}
 use Rattle.kiss_buffer.proofs.compact.Tie as tie
 

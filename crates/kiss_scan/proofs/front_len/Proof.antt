@@ -5,7 +5,7 @@ use native.Mathlib.Omega.{arith}
 use borrow.Author.Needs.{needs}
 use lib.ListN.{drop, length-drop}
 use Rattle.kiss_layout.specs.Scan.{notFend, runOf}
-use Rattle.kiss_scan.proofs.Fronts.{to-the-end, front-length-found, front-length-none}
+use Rattle.kiss_reader.proofs.Fronts.{to-the-end, front-length-found, front-length-none}
 use Rattle.kiss_scan.proofs.front_len.Statement.{statement}
 use Rattle.kiss_scan.proofs.front_len.Tie as tie
 

@@ -9,7 +9,7 @@ use lib.Dec.{eqb}
 use lib.ListN.{length, drop}
 use Rattle.kiss_reader.specs.Reader.{settle, front, isSome}
 use Rattle.kiss_reader.proofs.Indices.{settle-at, settle-within}
-use Rattle.kiss_scan.proofs.Fronts.{to-the-end, front-some}
+use Rattle.kiss_reader.proofs.Fronts.{to-the-end, front-some}
 use Rattle.kiss_scan.proofs.holds_frame.Statement.{statement}
 use Rattle.kiss_scan.proofs.holds_frame.Tie as tie
 

@@ -3,7 +3,7 @@ use native.Mathlib.Omega.{arith}
 use borrow.Author.Needs.{needs}
 use Rattle.kiss_layout.specs.Scan.{notFend}
 use Rattle.kiss_layout.proofs.Scans.{run-within}
-use Rattle.kiss_scan.proofs.Fronts.{settle-sum, settle-short}
+use Rattle.kiss_reader.proofs.Fronts.{settle-sum, settle-short}
 use Rattle.kiss_scan.proofs.settle_at.Statement.{statement}
 use Rattle.kiss_scan.proofs.settle_at.Tie as tie
 

@@ -4,7 +4,7 @@ use borrow.Author.Needs.{needs}
 use lib.Dec.{ltb}
 use lib.ListN.{length-drop}
 use Rattle.kiss_layout.specs.Scan.{notFend, runOf}
-use Rattle.kiss_scan.proofs.Fronts.{to-the-end, stands-short, stands-unopened, stands-empty, stands-closed}
+use Rattle.kiss_reader.proofs.Fronts.{to-the-end, stands-short, stands-unopened, stands-empty, stands-closed}
 use Rattle.kiss_scan.proofs.stands_first.Statement.{statement}
 use Rattle.kiss_scan.proofs.stands_first.Tie as tie
 

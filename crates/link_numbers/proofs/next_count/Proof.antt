@@ -1,7 +1,7 @@
 -- `link_numbers::next_count` meets its contract. Assumes nothing.
 use mathlib.Core.Path.{sym, ap}
 use borrow.Author.Needs.{needs}
-use Rattle.kiss_buffer.specs.declared.NextAnswer.{NextAnswer}
+use Rattle.kiss_calls.specs.declared.NextAnswer.{NextAnswer}
 use Rattle.link_numbers.specs.Numbers.{nextCount}
 use Rattle.link_numbers.proofs.next_count.Statement.{statement}
 use Rattle.link_numbers.proofs.next_count.Tie as tie

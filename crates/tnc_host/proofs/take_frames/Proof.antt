@@ -5,9 +5,9 @@ use mathlib.Core.Path.{_≡_, refl, sym, ap, _∙_, subst}
 use mathlib.Core.List.{List}
 use borrow.Author.Needs.{needs}
 use borrow.Author.Tests.{not-true, not-false}
-use Rattle.kiss_buffer.specs.declared.NextFrame.{NextFrame}
-use Rattle.kiss_buffer.specs.Calls.{frameIn}
-use Rattle.kiss_buffer.specs.Promises.{Box as ReaderBox, afterNextFrame, Sound}
+use Rattle.kiss_calls.specs.declared.NextFrame.{NextFrame}
+use Rattle.kiss_calls.specs.Calls.{frameIn}
+use Rattle.kiss_calls.specs.Promises.{Box as ReaderBox, afterNextFrame, Sound}
 use Rattle.host_frame.specs.Promises.{Box as HostBox, leftBy, after, Sound as HostSound}
 use Rattle.host_frame.proofs.Kept as host
 use Rattle.tnc_drain.specs.Drain.{readerBox, hostBox, drained}

@@ -6,12 +6,12 @@ use Prim.Native.Nat.{ℕ}
 use borrow.Author.Needs.{needs}
 use lib.ListN.{length}
 use Rattle.choice.specs.Pick.{not-yes, not-no}
-use Rattle.kiss_buffer.specs.declared.WriteAnswer.{WriteAnswer}
-use Rattle.kiss_buffer.specs.declared.WriteAnswer.the-variants.{Done}
-use Rattle.kiss_buffer.specs.declared.Written.{Written}
+use Rattle.kiss_calls.specs.declared.WriteAnswer.{WriteAnswer}
+use Rattle.kiss_calls.specs.declared.WriteAnswer.the-variants.{Done}
+use Rattle.kiss_calls.specs.declared.Written.{Written}
 use Rattle.kiss_reader.specs.Reader.{STORE as READER}
-use Rattle.kiss_buffer.specs.Promises.{Sound}
-use Rattle.kiss_buffer.proofs.Boxes.{write-sound, done-says}
+use Rattle.kiss_calls.specs.Promises.{Sound}
+use Rattle.kiss_calls.proofs.Boxes.{write-sound, done-says}
 use Rattle.packets.specs.Queue.{STORE as PACKETS}
 use Rattle.streams.specs.Queue.{STORE as STREAMS}
 use Rattle.host_record.specs.Host.{soundHost}

@@ -15,8 +15,8 @@ use Rattle.kiss_layout.specs.Scan.{notFend, runOf}
 use Rattle.kiss_reader.specs.Reader.{settle, front}
 use Rattle.kiss_reader.specs.Inside.{settleAt}
 use Rattle.kiss_reader.proofs.Indices.{settle-at, settle-within, front-found, front-none}
-use Rattle.kiss_scan.specs.Front.{orEmpty}
-use Rattle.kiss_scan.proofs.Fronts.{front-length-found, front-length-none}
+use Rattle.kiss_reader.specs.Front.{orEmpty}
+use Rattle.kiss_reader.proofs.Fronts.{front-length-found, front-length-none}
 
 -- ---- compact
 

@@ -14,11 +14,11 @@ use Rattle.choice.specs.Pick.{and}
 use Rattle.kiss_layout.specs.Escape.{FEND}
 use Rattle.kiss_layout.specs.Scan.{isFend, notFend, stretch, runOf}
 use Rattle.kiss_layout.proofs.Scans.{run-within, stretch-found}
 use Rattle.kiss_reader.specs.Meaning.{enclosed}
 use Rattle.kiss_reader.specs.Reader.{front, isSome}
 use Rattle.kiss_reader.specs.Inside.{settleAt}
 use Rattle.kiss_reader.proofs.Indices.{front-none, stretch-tested}
-use Rattle.kiss_scan.specs.Front.{standsFirst, orEmpty}
+use Rattle.kiss_reader.specs.Front.{standsFirst, orEmpty}
 
 -- a part that goes on to the end
 pub to-the-end : (i : ℕ) (h : List ℕ) → take (length h - i) (drop i h) ≡ drop i h

@@ -14,17 +14,17 @@ use Rattle.choice.specs.Pick.{pick, and, and-fst, and-snd}
 use Rattle.store.specs.Room.{over}
 use Rattle.kiss_layout.specs.Escape.{FEND}
 use Rattle.kiss_layout.specs.Scan.{stretch}
-use Rattle.kiss_buffer.specs.declared.KissBuffer.{KissBuffer}
-use Rattle.kiss_buffer.specs.declared.WriteAnswer.the-variants.{Done, Full, WrongStore, OutOfBounds}
-use Rattle.kiss_buffer.specs.declared.NextAnswer.the-variants.{Frame, Nothing, WrongStore as NoStore, OutOfBounds as NoState}
+use Rattle.kiss_calls.specs.declared.KissBuffer.{KissBuffer}
+use Rattle.kiss_calls.specs.declared.WriteAnswer.the-variants.{Done, Full, WrongStore, OutOfBounds}
+use Rattle.kiss_calls.specs.declared.NextAnswer.the-variants.{Frame, Nothing, WrongStore as NoStore, OutOfBounds as NoState}
 use Rattle.kiss_reader.specs.Meaning.{enclosed}
 use Rattle.kiss_reader.specs.Reader.{Reader, STORE, settle, flush, front, isSome, next, afterNext, isFull, refused, keptBack, takes, afterWrite}
-use Rattle.kiss_buffer.specs.Calls.{readerOf, soundBuffer, notWritten, writes, written, nextAnswer, notSought, found, nextFrame, frameIn}
-use Rattle.kiss_scan.specs.Front.{standsFirst, orEmpty}
-use Rattle.kiss_buffer.specs.Inside.{compacted, accepted}
+use Rattle.kiss_calls.specs.Calls.{readerOf, soundBuffer, notWritten, writes, written, nextAnswer, notSought, found, nextFrame, frameIn}
+use Rattle.kiss_reader.specs.Front.{standsFirst, orEmpty}
+use Rattle.kiss_calls.specs.Inside.{compacted, accepted}
 use Rattle.kiss_reader.specs.Inside.{settleAt}
 use Rattle.kiss_reader.proofs.Indices.{settle-at, settle-settle}
-use Rattle.kiss_buffer.proofs.Inner.{front-part, front-within}
+use Rattle.kiss_calls.proofs.Inner.{front-part, front-within}
 
 -- ---- what a sound state says
 

@@ -8,15 +8,15 @@ use lib.Dec.{leb, eqb}
 use lib.ListN.{length, take}
 use Rattle.choice.specs.Pick.{pick, and}
 use Rattle.store.specs.Room.{over}
-use Rattle.kiss_buffer.specs.declared.KissBuffer.{KissBuffer}
-use Rattle.kiss_buffer.specs.declared.WriteAnswer.{WriteAnswer}
-use Rattle.kiss_buffer.specs.declared.WriteAnswer.the-variants.{Done, Full, WrongStore, OutOfBounds}
-use Rattle.kiss_buffer.specs.declared.Written.{Written}
-use Rattle.kiss_buffer.specs.declared.NextAnswer.{NextAnswer}
-use Rattle.kiss_buffer.specs.declared.NextAnswer.the-variants.{Frame, Nothing, WrongStore as NoStore, OutOfBounds as NoState}
-use Rattle.kiss_buffer.specs.declared.NextFrame.{NextFrame}
+use Rattle.kiss_calls.specs.declared.KissBuffer.{KissBuffer}
+use Rattle.kiss_calls.specs.declared.WriteAnswer.{WriteAnswer}
+use Rattle.kiss_calls.specs.declared.WriteAnswer.the-variants.{Done, Full, WrongStore, OutOfBounds}
+use Rattle.kiss_calls.specs.declared.Written.{Written}
+use Rattle.kiss_calls.specs.declared.NextAnswer.{NextAnswer}
+use Rattle.kiss_calls.specs.declared.NextAnswer.the-variants.{Frame, Nothing, WrongStore as NoStore, OutOfBounds as NoState}
+use Rattle.kiss_calls.specs.declared.NextFrame.{NextFrame}
 use Rattle.kiss_reader.specs.Reader.{Reader, STORE, front, next, afterNext, refused, takes, afterWrite}
-use Rattle.kiss_scan.specs.Front.{standsFirst, orEmpty}
+use Rattle.kiss_reader.specs.Front.{standsFirst, orEmpty}
 
 -- the reader that a record and a store stand for, and the record of a reader
 abbrev pub readerOf : KissBuffer → List ℕ → Reader

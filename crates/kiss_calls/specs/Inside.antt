@@ -4,8 +4,8 @@ use mathlib.Core.Bool.{false}
 use mathlib.Core.List.{List, _++_}
 use lib.ListN.{length, take, drop}
 use Rattle.store.specs.Room.{over}
-use Rattle.kiss_buffer.specs.declared.WriteAnswer.the-variants.{Done}
-use Rattle.kiss_buffer.specs.declared.Written.{Written}
+use Rattle.kiss_calls.specs.declared.WriteAnswer.the-variants.{Done}
+use Rattle.kiss_calls.specs.declared.Written.{Written}
 use Rattle.kiss_reader.specs.Reader.{STORE, settle}
 
 -- how many bytes are held once those from `from` up to `filled` are settled, and the store then

@@ -8,13 +8,13 @@ use lib.ListN.{length, take, drop}
 use Rattle.kiss_layout.specs.Escape.{FEND}
 use Rattle.kiss_layout.specs.Build.{Building, portOf, commandOf, contentOf, frameOf}
 use Rattle.kiss_layout.specs.Promises.{ReadsAs}
-use Rattle.kiss_buffer.specs.declared.KissBuffer.{KissBuffer}
-use Rattle.kiss_buffer.specs.declared.WriteAnswer.the-variants.{Done}
-use Rattle.kiss_buffer.specs.declared.NextAnswer.the-variants.{Frame, Nothing}
+use Rattle.kiss_calls.specs.declared.KissBuffer.{KissBuffer}
+use Rattle.kiss_calls.specs.declared.WriteAnswer.the-variants.{Done}
+use Rattle.kiss_calls.specs.declared.NextAnswer.the-variants.{Frame, Nothing}
 use Rattle.kiss_reader.specs.Meaning.{framesOf}
 use Rattle.kiss_reader.specs.Reader.{newReader, STORE}
 use Rattle.kiss_reader.specs.Promises.{joined, Folds, AllAccepted}
-use Rattle.kiss_buffer.specs.Calls.{bufferOf, soundBuffer, written, nextFrame, frameIn, writeNumber, nextNumber}
+use Rattle.kiss_calls.specs.Calls.{bufferOf, soundBuffer, written, nextFrame, frameIn, writeNumber, nextNumber}
 
 -- ---- runs
 

@@ -1,9 +1,9 @@
--- `kiss_buffer::KissBuffer::frame` meets its contract. Assumes nothing.
+-- `kiss_buffer::frame` meets its contract. Assumes nothing.
 use mathlib.Core.Path.{sym}
 use borrow.Author.Needs.{needs}
 use lib.Seq.{length-take-le}
-use Rattle.kiss_buffer.proofs.KissBuffer.frame.Statement.{statement}
-use Rattle.kiss_buffer.proofs.KissBuffer.frame.Tie as tie
+use Rattle.kiss_buffer.proofs.frame.Statement.{statement}
+use Rattle.kiss_buffer.proofs.frame.Tie as tie
 
 slice-aggregate-result : tie.Need-slice-aggregate-result
 slice-aggregate-result c = let f = c .before in sym (length-take-le (f .frame-len .result) (f .before .before .args .store .now) (f .frame-len .ensures .0))

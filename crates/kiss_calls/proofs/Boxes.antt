@@ -12,15 +12,15 @@ use borrow.Author.Tests.{eq-eqb, eqb-true, le-leb}
 use Rattle.choice.specs.Pick.{pick, and}
 use Rattle.store.specs.Room.{over}
 use Rattle.kiss_layout.specs.Scan.{stretch}
-use Rattle.kiss_buffer.specs.declared.WriteAnswer.the-variants.{Done, Full, WrongStore, OutOfBounds}
-use Rattle.kiss_buffer.specs.declared.Written.{Written}
-use Rattle.kiss_buffer.specs.declared.NextAnswer.the-variants.{Frame, Nothing}
-use Rattle.kiss_buffer.specs.declared.NextFrame.{NextFrame}
+use Rattle.kiss_calls.specs.declared.WriteAnswer.the-variants.{Done, Full, WrongStore, OutOfBounds}
+use Rattle.kiss_calls.specs.declared.Written.{Written}
+use Rattle.kiss_calls.specs.declared.NextAnswer.the-variants.{Frame, Nothing}
+use Rattle.kiss_calls.specs.declared.NextFrame.{NextFrame}
 use Rattle.kiss_reader.specs.Meaning.{enclosed}
 use Rattle.kiss_reader.specs.Reader.{Reader, newReader, STORE, flush, front, isSome, next, afterNext, refused, takes, afterWrite}
-use Rattle.kiss_buffer.specs.Calls.{readerOf, bufferOf, soundBuffer, notWritten, writes, written, nextAnswer, found, nextFrame, frameIn}
-use Rattle.kiss_scan.specs.Front.{standsFirst}
-use Rattle.kiss_buffer.specs.Promises.{Box, newBox, afterWritten, afterNextFrame, Sound}
+use Rattle.kiss_calls.specs.Calls.{readerOf, bufferOf, soundBuffer, notWritten, writes, written, nextAnswer, found, nextFrame, frameIn}
+use Rattle.kiss_reader.specs.Front.{standsFirst}
+use Rattle.kiss_calls.specs.Promises.{Box, newBox, afterWritten, afterNextFrame, Sound}
 use Rattle.kiss_reader.proofs.Settled.{Settled, bare, alone, fronted, settled}
 use Rattle.kiss_reader.proofs.Steps.{length-settle, length-flush, length-write}
 

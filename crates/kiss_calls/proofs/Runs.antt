@@ -7,10 +7,10 @@ use native.Mathlib.Omega.{arith}
 use lib.ListN.{length, take, drop, length-drop}
 use Rattle.kiss_reader.specs.Meaning.{framesOf}
 use Rattle.kiss_reader.specs.Reader.{Reader, STORE, flush, next, takes, afterWrite}
-use Rattle.kiss_buffer.specs.Calls.{nextAnswer, written}
-use Rattle.kiss_buffer.specs.Promises.{Box, newBox, afterWritten, afterNextFrame, Drain, none-left, handed-out, Run, over, write, Sound}
+use Rattle.kiss_calls.specs.Calls.{nextAnswer, written}
+use Rattle.kiss_calls.specs.Promises.{Box, newBox, afterWritten, afterNextFrame, Drain, none-left, handed-out, Run, over, write, Sound}
 use Rattle.kiss_reader.proofs.Steps.{next-frames, search-frames, Still, still-new, still-after, still-ends, write-frames, still-not-refused, takes-some, next-shorter}
-use Rattle.kiss_buffer.proofs.Boxes.{reading, new-sound, held-short, next-answer, next-reads, none-answered, some-answered, handedOut, next-sound, next-frame, write-count, write-answer, write-reads, write-sound}
+use Rattle.kiss_calls.proofs.Boxes.{reading, new-sound, held-short, next-answer, next-reads, none-answered, some-answered, handedOut, next-sound, next-frame, write-count, write-answer, write-reads, write-sound}
 
 -- ---- frames are taken until none is left
 

@@ -1,11 +1,11 @@
--- `kiss_buffer::KissBuffer::is_sound` meets its contract. Assumes nothing.
+-- `kiss_buffer::is_sound` meets its contract. Assumes nothing.
 use native.Mathlib.Omega.{arith}
 use borrow.Author.Needs.{needs}
 use lib.ListN.{length-take}
 use Rattle.choice.specs.Pick.{tests}
-use Rattle.kiss_buffer.specs.Calls.{soundBuffer}
-use Rattle.kiss_buffer.proofs.KissBuffer.is_sound.Statement.{statement}
-use Rattle.kiss_buffer.proofs.KissBuffer.is_sound.Tie as tie
+use Rattle.kiss_calls.specs.Calls.{soundBuffer}
+use Rattle.kiss_buffer.proofs.is_sound.Statement.{statement}
+use Rattle.kiss_buffer.proofs.is_sound.Tie as tie
 
 returns : tie.Need-returns
 unfolding soundBuffer
@@ -24,7 +24,7 @@ is-sound-spec =
     tie.close
     (tie.spec
     returns
-    (λ c. let s = c .before .before .before .before in omega (arith, length-take (s .args .self .filled) (s .args .store .now), s .pre))
+    (λ c. let s = c .before .before .before .before in omega (arith, length-take (s .args .buffer .filled) (s .args .store .now), s .pre))
     (λ c κs. search needs)
     returns-2
     returns-3)

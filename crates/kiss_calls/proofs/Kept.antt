@@ -10,18 +10,18 @@ use lib.ListN.{length}
 use Rattle.choice.specs.Pick.{pick}
 use Rattle.kiss_layout.specs.Build.{Building}
 use Rattle.kiss_layout.proofs.Kept.{built-reads-back}
-use Rattle.kiss_buffer.specs.declared.WriteAnswer.the-variants.{Done, Full, WrongStore, OutOfBounds}
-use Rattle.kiss_buffer.specs.declared.Written.{Written}
-use Rattle.kiss_buffer.specs.declared.NextAnswer.the-variants.{WrongStore as WrongStore′, OutOfBounds as OutOfBounds′}
-use Rattle.kiss_buffer.specs.declared.NextFrame.{NextFrame}
+use Rattle.kiss_calls.specs.declared.WriteAnswer.the-variants.{Done, Full, WrongStore, OutOfBounds}
+use Rattle.kiss_calls.specs.declared.Written.{Written}
+use Rattle.kiss_calls.specs.declared.NextAnswer.the-variants.{WrongStore as WrongStore′, OutOfBounds as OutOfBounds′}
+use Rattle.kiss_calls.specs.declared.NextFrame.{NextFrame}
 use Rattle.kiss_reader.specs.Reader.{STORE, next, refused}
-use Rattle.kiss_buffer.specs.Calls.{soundBuffer, notWritten, writes, written, nextAnswer, notSought, found, nextFrame, writeNumber, nextNumber}
-use Rattle.kiss_buffer.specs.Promises.{Box, afterWritten, afterNextFrame, RunGivesItsFrames, RefusedKeepsAll, WriteTakesSome, DrainedIsNotRefused, TakingEnds, SoundStaysSound, EveryInputHasItsRun, AllReadBack, none-read, one-read, Demand3}
+use Rattle.kiss_calls.specs.Calls.{soundBuffer, notWritten, writes, written, nextAnswer, notSought, found, nextFrame, writeNumber, nextNumber}
+use Rattle.kiss_calls.specs.Promises.{Box, afterWritten, afterNextFrame, RunGivesItsFrames, RefusedKeepsAll, WriteTakesSome, DrainedIsNotRefused, TakingEnds, SoundStaysSound, EveryInputHasItsRun, AllReadBack, none-read, one-read, Demand3}
 use Rattle.kiss_reader.specs.Promises.{AllAccepted, none-accepted, one-accepted}
 use Rattle.kiss_reader.proofs.Frames.{built-frames}
 use Rattle.kiss_reader.proofs.Steps.{still-not-refused, takes-some}
-use Rattle.kiss_buffer.proofs.Boxes.{reading, next-sound, write-answer, write-count, write-sound, done-says}
-use Rattle.kiss_buffer.proofs.Runs.{drain-still, run-frames, drain-exists, run-exists}
+use Rattle.kiss_calls.proofs.Boxes.{reading, next-sound, write-answer, write-count, write-sound, done-says}
+use Rattle.kiss_calls.proofs.Runs.{drain-still, run-frames, drain-exists, run-exists}
 
 pub run-gives-its-frames : RunGivesItsFrames
 run-gives-its-frames = run-frames
