@@ -5,7 +5,7 @@ use mathlib.Core.List.{List}
 use lib.ListN.{length}
 use borrow.Author.Tests.{eq-eqb, ne-eqb, lt-ltb, le-ltb}
 use Rattle.choice.specs.Pick.{pick}
-use Rattle.store.specs.Room.{placed}
+use Rattle.room.specs.Room.{placed}
 use Rattle.state.specs.declared.State.the-variants.{RxPacket}
 use Rattle.radio.specs.declared.Radio.{Radio}
 use Rattle.radio.specs.declared.AirAnswer.the-variants.{WrongStore}

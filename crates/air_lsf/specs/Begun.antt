@@ -1,7 +1,7 @@
 -- What the TNC does with an LSF from the air, from document 01's "From the air". Assumes nothing.
 use Prim.Native.Nat.{ℕ}
 use mathlib.Core.List.{List}
-use Rattle.store.specs.Room.{over}
+use Rattle.room.specs.Room.{over}
 use Rattle.protocol.specs.Lsf.{fieldOf, modeBits}
 use Rattle.protocol.specs.Kinds.{modeOf}
 use Rattle.protocol.specs.declared.lsf.Mode.{Mode}

@@ -8,7 +8,7 @@ use borrow.Author.Tests.{le-leb, eqb-true}
 use lib.ListN.{length, take, drop, set, length-append, length-take, length-set, take-append-drop}
 use lib.Seq.{sets, sets-eq, take-at, drop-drop}
 use Rattle.choice.specs.Pick.{pick, pick-all, and, and-fst, and-snd, and-both, not-no}
-use Rattle.store.specs.Room.{over}
+use Rattle.room.specs.Room.{over}
 use Rattle.channel.specs.declared.Channel.{Channel}
 use Rattle.channel.specs.Access.{soundChannel}
 use Rattle.kiss_layout.specs.Scan.{notFend}

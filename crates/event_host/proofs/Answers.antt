@@ -3,7 +3,7 @@ use Prim.Native.Nat.{ℕ}
 use mathlib.Core.Path.{_≡_, ap, _∙_}
 use mathlib.Core.List.{List, _++_}
 use lib.ListN.{length, drop}
-use Rattle.store.specs.Room.{over}
+use Rattle.room.specs.Room.{over}
 use Rattle.channel.specs.declared.Channel.{Channel}
 use Rattle.kiss_calls.specs.Calls.{writeNumber}
 use Rattle.outgoing.specs.Message.{hostNumber}

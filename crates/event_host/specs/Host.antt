@@ -1,7 +1,7 @@
 -- What the events of the host make of what the TNC's call gave, from document 01's "Event program". Assumes nothing.
 use Prim.Native.Nat.{ℕ}
 use mathlib.Core.List.{List}
-use Rattle.store.specs.Room.{over}
+use Rattle.room.specs.Room.{over}
 use Rattle.channel.specs.declared.Channel.{Channel}
 use Rattle.kiss_calls.specs.Calls.{writeNumber}
 use Rattle.outgoing.specs.Message.{hostNumber}

@@ -10,7 +10,7 @@ use lib.Dec.{leb}
 use lib.ListN.{length, getD, set, drop, length-append, drop-of-length-le}
 use lib.Seq.{sets, sets-eq, drop-cons}
 use Rattle.choice.specs.Pick.{pick}
-use Rattle.store.proofs.Runs.{sets-append}
+use Rattle.room.proofs.Runs.{sets-append}
 use Rattle.event_line.specs.declared.Line.the-variants.{Wrote, NumberOver9, NoRoom}
 use Rattle.event_line.specs.Line.{hexDigit, hexOf, flag, tailOf, lineOf, stored, fits, written}
 

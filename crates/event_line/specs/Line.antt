@@ -7,7 +7,7 @@ use lib.Dec.{ltb, leb, eqb}
 use lib.ListN.{length}
 use lib.Seq.{sets}
 use Rattle.choice.specs.Pick.{pick}
-use Rattle.store.specs.Room.{placed}
+use Rattle.room.specs.Room.{placed}
 use Rattle.event_line.specs.declared.Line.{Line}
 use Rattle.event_line.specs.declared.Line.the-variants.{Wrote, NumberOver9, NoRoom}
 

@@ -7,7 +7,7 @@ use mathlib.Core.Option.{Option, none, some}
 use lib.Dec.{leb, eqb}
 use lib.ListN.{length, take, getD}
 use Rattle.choice.specs.Pick.{pick}
-use Rattle.store.specs.Room.{over}
+use Rattle.room.specs.Room.{over}
 use Rattle.streams.specs.Layout.{frameOf}
 use Rattle.tnc_modulator.specs.Modulator.{kindNumber}
 use Rattle.any_calls.specs.Calls.{World, Call, writeKiss, readKiss, handleLsf, handlePacket, handleStream, setDataCarrierDetect, setNow, setTxEndTime, ptt, readTxFrame, reads, gives, after, number}

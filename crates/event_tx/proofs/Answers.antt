@@ -5,8 +5,8 @@ use mathlib.Core.List.{List, []}
 use native.Mathlib.Omega.{arith}
 use lib.ListN.{length}
 use lib.Seq.{sets}
-use Rattle.store.specs.Room.{over}
-use Rattle.store.proofs.Runs.{put-front}
+use Rattle.room.specs.Room.{over}
+use Rattle.room.proofs.Runs.{put-front}
 use Rattle.tx_frame.specs.declared.TxAnswer.{TxAnswer}
 use Rattle.tnc_modulator.specs.Modulator.{kindNumber}
 use Rattle.tnc_transmit.specs.declared.TncTx.{TncTx}

@@ -10,7 +10,7 @@ use lib.ListN.{length, drop, length-append, length-take, length-drop}
 use lib.Seq.{take-append-seam}
 use borrow.Author.Tests.{eq-eqb, eqb-true, le-leb}
 use Rattle.choice.specs.Pick.{pick, and}
-use Rattle.store.specs.Room.{over}
+use Rattle.room.specs.Room.{over}
 use Rattle.kiss_layout.specs.Scan.{stretch}
 use Rattle.kiss_calls.specs.declared.WriteAnswer.the-variants.{Done, Full, WrongStore, OutOfBounds}
 use Rattle.kiss_calls.specs.declared.Written.{Written}

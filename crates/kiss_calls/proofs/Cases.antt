@@ -11,7 +11,7 @@ use lib.ListN.{length, take, drop, getD, length-append, length-drop, length-take
 use lib.Seq.{take-at, take-take, take-all, drop-append-add, drop-drop}
 use borrow.Author.Tests.{eq-eqb, ne-eqb, le-leb, lt-leb, leb-true, eqb-true}
 use Rattle.choice.specs.Pick.{pick, and, and-fst, and-snd}
-use Rattle.store.specs.Room.{over}
+use Rattle.room.specs.Room.{over}
 use Rattle.kiss_layout.specs.Escape.{FEND}
 use Rattle.kiss_layout.specs.Scan.{stretch}
 use Rattle.kiss_calls.specs.declared.KissBuffer.{KissBuffer}

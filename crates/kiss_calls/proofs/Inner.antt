@@ -9,7 +9,7 @@ use lib.Dec.{ltb}
 use lib.ListN.{length, take, drop, getD, length-append, length-drop, length-take}
 use lib.Seq.{sets, sets-eq, take-nil, drop-drop}
 use borrow.Author.Tests.{ltb-true, ltb-false}
-use Rattle.store.specs.Room.{over}
+use Rattle.room.specs.Room.{over}
 use Rattle.kiss_layout.specs.Escape.{FEND}
 use Rattle.kiss_layout.specs.Scan.{notFend, runOf}
 use Rattle.kiss_reader.specs.Reader.{settle, front}

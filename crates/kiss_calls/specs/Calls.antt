@@ -7,7 +7,7 @@ use mathlib.Core.List.{List, []}
 use lib.Dec.{leb, eqb}
 use lib.ListN.{length, take}
 use Rattle.choice.specs.Pick.{pick, and}
-use Rattle.store.specs.Room.{over}
+use Rattle.room.specs.Room.{over}
 use Rattle.kiss_calls.specs.declared.KissBuffer.{KissBuffer}
 use Rattle.kiss_calls.specs.declared.WriteAnswer.{WriteAnswer}
 use Rattle.kiss_calls.specs.declared.WriteAnswer.the-variants.{Done, Full, WrongStore, OutOfBounds}

@@ -3,7 +3,7 @@ use Prim.Native.Nat.{ℕ, _+_, _-_, min}
 use mathlib.Core.Bool.{false}
 use mathlib.Core.List.{List, _++_}
 use lib.ListN.{length, take, drop}
-use Rattle.store.specs.Room.{over}
+use Rattle.room.specs.Room.{over}
 use Rattle.kiss_calls.specs.declared.WriteAnswer.the-variants.{Done}
 use Rattle.kiss_calls.specs.declared.Written.{Written}
 use Rattle.kiss_reader.specs.Reader.{STORE, settle}

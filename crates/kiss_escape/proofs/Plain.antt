@@ -8,7 +8,7 @@ use lib.ListN.{length, drop, length-append}
 use lib.Seq.{sets}
 use Rattle.blocks.specs.Block.{loaded, stored, without}
 use Rattle.blocks.proofs.Blocks.{loaded-length, loaded-split, stored-in, without-first, without-rest}
-use Rattle.store.proofs.Runs.{sets-append}
+use Rattle.room.proofs.Runs.{sets-append}
 use Rattle.kiss_layout.specs.Escape.{FEND, FESC, esc}
 use Rattle.kiss_layout.proofs.Escapes.{escByte-other}
 

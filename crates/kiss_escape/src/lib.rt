@@ -14,7 +14,7 @@ ghost use lib.Dec.{eqb};
 ghost use lib.ListN.{length, drop};
 ghost use lib.Seq.{sets};
 ghost use Rattle.choice.specs.Pick.{pick};
-ghost use Rattle.store.specs.Room.{over};
+ghost use Rattle.room.specs.Room.{over};
 ghost use Rattle.kiss_layout.specs.Escape.{FEND, TFEND, TFESC, esc, escaped};
 
 // Writes src, escaped, at the start of dst. Where it does not fit, dst is left as it is.

@@ -10,7 +10,7 @@ use lib.ListN.{length, drop, getD, length-append, drop-of-length-le}
 use lib.Seq.{drop-cons}
 use borrow.Author.Tests.{eq-eqb, ne-eqb, le-leb, lt-leb}
 use Rattle.choice.specs.Pick.{pick, pick-either, pick-neither}
-use Rattle.store.specs.Room.{over}
+use Rattle.room.specs.Room.{over}
 use Rattle.kiss_layout.specs.declared.Escaped.{Escaped}
 use Rattle.kiss_layout.specs.declared.Escaped.the-variants.{Wrote, NoRoom}
 use Rattle.kiss_layout.specs.Escape.{FEND, FESC, TFEND, TFESC, escByte, esc, escaped}

@@ -7,8 +7,8 @@ use lib.ListN.{length, set, length-append}
 use lib.Seq.{sets}
 use borrow.Author.Tests.{le-leb, lt-leb}
 use Rattle.choice.specs.Pick.{pick}
-use Rattle.store.specs.Room.{over}
-use Rattle.store.proofs.Runs.{put-front, sets-append}
+use Rattle.room.specs.Room.{over}
+use Rattle.room.proofs.Runs.{put-front, sets-append}
 use Rattle.kiss_layout.specs.declared.Built.the-variants.{Frame, NoRoom}
 use Rattle.kiss_layout.specs.Escape.{FEND, esc}
 use Rattle.kiss_layout.specs.Frame.{frame, putFrame}

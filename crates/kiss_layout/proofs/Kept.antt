@@ -10,7 +10,7 @@ use lib.Dec.{ltb, eqb}
 use lib.ListN.{length, length-append}
 use borrow.Author.Tests.{ltb-false, eqb-true, ne-eqb}
 use Rattle.choice.specs.Pick.{pick}
-use Rattle.store.specs.Room.{fits, over}
+use Rattle.room.specs.Room.{fits, over}
 use Rattle.kiss_layout.specs.declared.KissCommand.{KissCommand}
 use Rattle.kiss_layout.specs.declared.Built.{Built}
 use Rattle.kiss_layout.specs.declared.Built.the-variants.{Frame, PayloadTooBig, LsfWrongSize, OutOfRange, NoRoom}

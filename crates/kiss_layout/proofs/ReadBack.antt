@@ -7,7 +7,7 @@ use Prim.Native.Nat.{ℕ, _≤_}
 use lib.ListN.{length}
 use borrow.Author.Tests.{ne-eqb}
 use Rattle.choice.specs.Pick.{pick}
-use Rattle.store.specs.Room.{over}
+use Rattle.room.specs.Room.{over}
 use Rattle.kiss_layout.specs.declared.Decoded.the-variants.{Payload}
 use Rattle.kiss_layout.specs.Escape.{FEND, esc}
 use Rattle.kiss_layout.specs.Scan.{afterFends}

@@ -8,7 +8,7 @@ use lib.Dec.{leb}
 use lib.ListN.{length, take, drop, getD, set, length-append}
 use lib.Seq.{sets, take-at, getD-append-add, drop-append-add}
 use borrow.Author.Tests.{le-leb, lt-leb}
-use Rattle.store.proofs.Runs.{put-all, sets-append}
+use Rattle.room.proofs.Runs.{put-all, sets-append}
 use Rattle.crc.specs.Crc.{crcOf, twoBytes, sealed}
 use Rattle.crc.proofs.Kept.{sealed-gives-zero, sealed-length}
 use Rattle.protocol.specs.declared.StreamFrame.{StreamFrame}

@@ -5,7 +5,7 @@ use Prim.Native.Nat.{ℕ, suc, min, _≤_}
 use native.Mathlib.Nat.{le-of-suc-le-suc, not-suc-le-zero}
 use native.Mathlib.Omega.{arith}
 use lib.ListN.{length, length-map}
-use Rattle.store.specs.Room.{over}
+use Rattle.room.specs.Room.{over}
 use Rattle.kiss_layout.specs.Escape.{FESC, TFEND, TFESC, escByte, esc}
 use Rattle.kiss_layout.specs.Unescape.{Code, byte, afterFesc, codes, lay, unescaped}
 use Rattle.choice.specs.Pick.{pick}

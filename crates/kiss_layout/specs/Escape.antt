@@ -4,7 +4,7 @@ use mathlib.Core.List.{List, [], _∷_, _++_}
 use lib.Dec.{eqb}
 use lib.ListN.{length}
 use Rattle.choice.specs.Pick.{pick}
-use Rattle.store.specs.Room.{fits, over}
+use Rattle.room.specs.Room.{fits, over}
 use Rattle.kiss_layout.specs.declared.Escaped.{Escaped}
 use Rattle.kiss_layout.specs.declared.Escaped.the-variants.{Wrote, NoRoom}
 

@@ -3,7 +3,7 @@ use Prim.Native.Nat.{ℕ}
 use mathlib.Core.List.{List, [], _∷_, _++_}
 use lib.ListN.{length}
 use Rattle.choice.specs.Pick.{pick}
-use Rattle.store.specs.Room.{fits, over}
+use Rattle.room.specs.Room.{fits, over}
 use Rattle.kiss_layout.specs.Escape.{FEND, esc}
 use Rattle.kiss_layout.specs.declared.Built.{Built}
 use Rattle.kiss_layout.specs.declared.Built.the-variants.{Frame, PayloadTooBig, LsfWrongSize, OutOfRange, NoRoom}

@@ -6,7 +6,7 @@ use mathlib.Core.Path.{_≡_}
 use mathlib.Core.Option.{none, some}
 use mathlib.Core.List.{List}
 use lib.ListN.{length, drop, getD}
-use Rattle.store.specs.Room.{over}
+use Rattle.room.specs.Room.{over}
 use Rattle.crc.specs.Crc.{crcOf}
 use Rattle.protocol.specs.declared.StreamFrame.{StreamFrame}
 use Rattle.kiss_layout.specs.declared.KissCommand.{KissCommand}

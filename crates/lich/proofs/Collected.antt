@@ -9,7 +9,7 @@ use lib.Dec.{leb, ltb, eqb}
 use lib.ListN.{length, take, drop, getD, replicate}
 use lib.Seq.{getD-take, getD-drop, ext-getD}
 use Rattle.choice.specs.Pick.{pick, pick-all}
-use Rattle.store.proofs.Places.{placed-length, placed-there, kept-before, kept-beyond}
+use Rattle.room.proofs.Places.{placed-length, placed-there, kept-before, kept-beyond}
 use Rattle.lich.specs.declared.LichCollection.{LichCollection}
 use Rattle.lich.specs.declared.ValidSegments.{ValidSegments}
 use Rattle.lich.specs.declared.ValidSegments.the-variants.{Count, OutOfBounds as NoCount}

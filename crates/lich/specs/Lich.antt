@@ -5,7 +5,7 @@ use mathlib.Core.List.{List}
 use lib.Dec.{ltb, leb, eqb}
 use lib.ListN.{replicate}
 use Rattle.choice.specs.Pick.{pick}
-use Rattle.store.specs.Room.{placed}
+use Rattle.room.specs.Room.{placed}
 use Rattle.lich.specs.declared.LichCollection.{LichCollection}
 use Rattle.lich.specs.declared.ValidSegments.{ValidSegments}
 use Rattle.lich.specs.declared.ValidSegments.the-variants.{Count, OutOfBounds as NoCount}

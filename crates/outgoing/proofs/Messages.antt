@@ -6,7 +6,7 @@ use mathlib.Core.List.{List}
 use lib.ListN.{length, take, drop}
 use borrow.Author.Tests.{eq-eqb, ne-eqb, leb-true}
 use Rattle.choice.specs.Pick.{pick, and-fst, and-snd}
-use Rattle.store.specs.Room.{over}
+use Rattle.room.specs.Room.{over}
 use Rattle.outgoing.specs.declared.Outgoing.{Outgoing}
 use Rattle.outgoing.specs.declared.HostAnswer.the-variants.{Done, WrongStore, OutOfBounds}
 use Rattle.outgoing.specs.Message.{STORE, soundMessage, readUpTo, given, notRead, hostRead}

@@ -5,7 +5,7 @@ use mathlib.Core.List.{List}
 use lib.Dec.{leb, eqb}
 use lib.ListN.{length, take, drop}
 use Rattle.choice.specs.Pick.{pick, and}
-use Rattle.store.specs.Room.{over}
+use Rattle.room.specs.Room.{over}
 use Rattle.outgoing.specs.declared.Outgoing.{Outgoing}
 use Rattle.outgoing.specs.declared.HostAnswer.{HostAnswer}
 use Rattle.outgoing.specs.declared.HostAnswer.the-variants.{Done, WrongStore, OutOfBounds}

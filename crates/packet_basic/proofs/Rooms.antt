@@ -7,11 +7,11 @@ use native.Mathlib.Omega.{arith}
 use lib.ListN.{length, take, drop, set, replicate, length-set, length-append, length-replicate}
 use lib.Seq.{sets, sets-eq, length-sets, length-take-le, take-all, set-append-left, drop-at, drop-drop}
 use borrow.Rule.Slice.PartMut.{midOf, putMid}
-use Rattle.store.specs.declared.Copied.{Copied}
-use Rattle.store.specs.Room.{placed, copied}
-use Rattle.store.proofs.Copies.{copied-in}
-use Rattle.store.proofs.Places.{placed-length}
-use Rattle.store.proofs.Runs.{sets-append, put-all, put-front}
+use Rattle.room.specs.declared.Copied.{Copied}
+use Rattle.room.specs.Room.{placed, copied}
+use Rattle.room.proofs.Copies.{copied-in}
+use Rattle.room.proofs.Places.{placed-length}
+use Rattle.room.proofs.Runs.{sets-append, put-all, put-front}
 use Rattle.crc.specs.Crc.{crcOf, twoBytes}
 use Rattle.protocol.specs.Lsf.{part}
 use Rattle.protocol.specs.Basic.{basicLsf}

@@ -10,8 +10,8 @@ use lib.Dec.{ltb, leb}
 use lib.ListN.{length, take, drop, length-drop, length-take, drop-of-length-le}
 use lib.Seq.{drop-drop, take-nil}
 use Rattle.choice.specs.Pick.{pick, and-fst, and-snd}
-use Rattle.store.specs.Room.{placed}
-use Rattle.store.proofs.Places.{kept-before, kept-beyond}
+use Rattle.room.specs.Room.{placed}
+use Rattle.room.proofs.Places.{kept-before, kept-beyond}
 use Rattle.protocol.specs.Lsf.{part}
 use Rattle.packets.specs.declared.Place.{Place}
 use Rattle.packets.specs.Frames.{AirFrame, setup, piece, chunk, dataFrames, framesOf}

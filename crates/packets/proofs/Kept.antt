@@ -11,8 +11,8 @@ use lib.ListN.{length, take, drop, length-append}
 use lib.Seq.{length-take-le, take-at, drop-at}
 use Rattle.choice.specs.Pick.{pick, and, pick-all}
 use Rattle.choice.specs.Cases.{allPass}
-use Rattle.store.specs.Room.{placed}
-use Rattle.store.proofs.Places.{placed-length}
+use Rattle.room.specs.Room.{placed}
+use Rattle.room.proofs.Places.{placed-length}
 use Rattle.crc.specs.Crc.{crcOf, twoBytes, sealed}
 use Rattle.protocol.specs.Lsf.{part}
 use Rattle.protocol.specs.Basic.{basicLsf}

@@ -5,7 +5,7 @@ use mathlib.Core.List.{List, _++_, append-assoc}
 use native.Mathlib.Omega.{arith}
 use lib.ListN.{length, take, drop, length-drop, length-replicate}
 use lib.Seq.{length-take-le, drop-at, drop-drop, take-append-le, drop-append-le}
-use Rattle.store.specs.Room.{placed}
+use Rattle.room.specs.Room.{placed}
 use Rattle.crc.proofs.Kept.{sealed-length}
 use Rattle.protocol.specs.Lsf.{part}
 use Rattle.protocol.specs.Basic.{bytesOf, basicLsf}

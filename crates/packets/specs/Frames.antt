@@ -5,7 +5,7 @@ use mathlib.Core.List.{List, [], _∷_, _++_}
 use lib.Dec.{leb}
 use lib.ListN.{length, take, drop, replicate}
 use Rattle.choice.specs.Pick.{pick}
-use Rattle.store.specs.Room.{over}
+use Rattle.room.specs.Room.{over}
 use Rattle.protocol.specs.declared.PacketFrame.{PacketFrame}
 use Rattle.protocol.specs.declared.PacketFrameCounter.{PacketFrameCounter}
 use Rattle.protocol.specs.declared.PacketFrameCounter.the-variants.{Frame, FinalFrame}

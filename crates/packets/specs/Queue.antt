@@ -7,7 +7,7 @@ use lib.Dec.{ltb, leb, eqb}
 use lib.ListN.{length, getD, set, take, replicate}
 use Rattle.choice.specs.Pick.{pick, and}
 use Rattle.choice.specs.Cases.{allPass}
-use Rattle.store.specs.Room.{placed}
+use Rattle.room.specs.Room.{placed}
 use Rattle.crc.specs.Crc.{crcOf, twoBytes}
 use Rattle.protocol.specs.Lsf.{part}
 use Rattle.protocol.specs.Basic.{basicLsf}

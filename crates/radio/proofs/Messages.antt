@@ -9,8 +9,8 @@ use lib.ListN.{length, drop}
 use lib.Seq.{length-sets, take-at}
 use borrow.Author.Tests.{eq-eqb, le-leb, le-ltb}
 use Rattle.choice.specs.Pick.{pick-yes, pick-no, and-both}
-use Rattle.store.specs.Room.{over}
-use Rattle.store.proofs.Runs.{put-front}
+use Rattle.room.specs.Room.{over}
+use Rattle.room.proofs.Runs.{put-front}
 use Rattle.protocol.specs.declared.StreamFrame.{StreamFrame}
 use Rattle.kiss_layout.specs.Build.{Building, fullPacket, streamSetup, streamData, refusal, frameOf}
 use Rattle.kiss_layout.specs.Promises.{Accepted}

@@ -5,7 +5,7 @@ use mathlib.Core.List.{List}
 use lib.Dec.{eqb}
 use lib.ListN.{length}
 use Rattle.choice.specs.Pick.{pick, and}
-use Rattle.store.specs.Room.{over}
+use Rattle.room.specs.Room.{over}
 use Rattle.kiss_layout.specs.Build.{Building, frameOf}
 use Rattle.outgoing.specs.Message.{soundMessage}
 use Rattle.state.specs.declared.State.{State}

@@ -1,5 +1,1 @@
-pub mod Runs
-pub mod Parts
-pub mod Copies
-pub mod Places
 pub mod Shifts

@@ -6,7 +6,7 @@ use native.Mathlib.Numerals.{add-one}
 use native.Mathlib.Omega.{arith}
 use lib.ListN.{length, take, drop, getD, set, length-drop, take-append-drop}
 use lib.Seq.{take-suc, drop-cons, getD-drop, getD-append-add, set-at, length-take-le, append-snoc}
-use Rattle.store.specs.Room.{over}
+use Rattle.room.specs.Room.{over}
 
 -- k bytes moved down by n places, the rest as it was
 abbrev pub moved : List ℕ → ℕ → ℕ → List ℕ

@@ -1,15 +1,10 @@
 // Bytes put into a store that the caller lends, and moved in it.
+use room::Copied;
 ghost use mathlib.Core.Path.{_≡_};
 ghost use Prim.Native.Nat.{_+_, _≤_};
 ghost use lib.ListN.{length, take, drop};
 ghost use lib.Seq.{sets};
-ghost use Rattle.store.specs.Room.{over, copied, shifted};
-
-// What a call answers: that it is done, or that the store has no such place.
-pub enum Copied {
-    Done,
-    NoRoom,
-}
+ghost use Rattle.room.specs.Room.{over, copied, shifted};
 
 // Puts src into dst from index at on. Where it does not fit, dst is left as it is.
 pub fn copy_in(src: &[u8], dst: &mut [u8], at: usize) -> Copied

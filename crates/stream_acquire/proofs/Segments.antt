@@ -8,11 +8,11 @@ use borrow.Author.Tests.{lt-leb, lt-ltb, le-ltb, eq-eqb, ne-eqb}
 use lib.Dec.{eqb}
 use lib.ListN.{length, replicate}
 use Rattle.choice.specs.Pick.{pick, and}
-use Rattle.store.specs.declared.Copied.{Copied}
-use Rattle.store.specs.Room.{over, copied}
-use Rattle.store.proofs.Places.{placed-length}
-use Rattle.store.proofs.Copies.{copied-in}
-use Rattle.store.proofs.Runs.{put-front}
+use Rattle.room.specs.declared.Copied.{Copied}
+use Rattle.room.specs.Room.{over, copied}
+use Rattle.room.proofs.Places.{placed-length}
+use Rattle.room.proofs.Copies.{copied-in}
+use Rattle.room.proofs.Runs.{put-front}
 use Rattle.crc.specs.Crc.{crcOf}
 use Rattle.protocol.specs.declared.StreamFrame.{StreamFrame}
 use Rattle.lich.specs.declared.LichCollection.{LichCollection}

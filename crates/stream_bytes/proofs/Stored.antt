@@ -8,7 +8,7 @@ use lib.Dec.{leb}
 use lib.ListN.{length, take, getD, set, length-append}
 use lib.Seq.{sets}
 use borrow.Author.Tests.{leb-true, leb-false}
-use Rattle.store.proofs.Runs.{put-all, sets-append}
+use Rattle.room.proofs.Runs.{put-all, sets-append}
 use Rattle.protocol.specs.Lsf.{part}
 use Rattle.kiss_layout.specs.Stream.{streamOf}
 use Rattle.streams.specs.Layout.{FRAME, endByte, bytesOf}

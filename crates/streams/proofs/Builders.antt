@@ -8,7 +8,7 @@ use lib.ListN.{length, take, drop, getD, replicate, length-drop, List·getD-appe
 use lib.Seq.{take-append-le, drop-append-le}
 use borrow.Author.Tests.{eq-eqb}
 use Rattle.choice.specs.Pick.{pick}
-use Rattle.store.specs.Room.{over}
+use Rattle.room.specs.Room.{over}
 use Rattle.protocol.specs.declared.StreamFrame.{StreamFrame}
 use Rattle.protocol.specs.Lsf.{part}
 use Rattle.kiss_layout.specs.declared.Decoded.{Decoded}

@@ -7,7 +7,7 @@ use native.Mathlib.Omega.{arith}
 use lib.ListN.{length}
 use borrow.Author.Tests.{eq-eqb, ne-eqb, le-leb, lt-leb, ltb-true}
 use Rattle.choice.specs.Pick.{pick, and-fst, and-snd}
-use Rattle.store.specs.Room.{placed}
+use Rattle.room.specs.Room.{placed}
 use Rattle.crc.specs.Crc.{crcOf}
 use Rattle.kiss_layout.specs.declared.Decoded.{Decoded}
 use Rattle.kiss_layout.specs.Stream.{streamOf}

@@ -10,8 +10,8 @@ use lib.Dec.{leb}
 use lib.ListN.{length}
 use borrow.Author.Tests.{leb-true, leb-false}
 use Rattle.choice.specs.Pick.{pick, and}
-use Rattle.store.specs.Room.{placed}
-use Rattle.store.proofs.Places.{placed-length}
+use Rattle.room.specs.Room.{placed}
+use Rattle.room.proofs.Places.{placed-length}
 use Rattle.protocol.specs.declared.StreamFrame.{StreamFrame}
 use Rattle.crc.specs.Crc.{crcOf}
 use Rattle.kiss_layout.specs.declared.Decoded.{Decoded}

@@ -8,7 +8,7 @@ use lib.Dec.{leb, eqb}
 use lib.ListN.{length, replicate}
 use borrow.Author.Tests.{eqb-true}
 use Rattle.choice.specs.Pick.{pick}
-use Rattle.store.specs.Room.{placed}
+use Rattle.room.specs.Room.{placed}
 use Rattle.crc.specs.Crc.{crcOf}
 use Rattle.kiss_layout.proofs.Unescaped.{room-length}
 use Rattle.kiss_layout.specs.declared.Decoded.{Decoded}

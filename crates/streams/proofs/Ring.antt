@@ -9,8 +9,8 @@ use lib.Dec.{ltb, eqb}
 use lib.ListN.{length, take, drop}
 use borrow.Author.Tests.{lt-ltb, ltb-true, ltb-false, eq-eqb, eqb-true, eqb-false}
 use Rattle.choice.specs.Pick.{pick, and-snd, and-both}
-use Rattle.store.specs.Room.{placed}
-use Rattle.store.proofs.Places.{placed-there, kept-before, kept-beyond}
+use Rattle.room.specs.Room.{placed}
+use Rattle.room.proofs.Places.{placed-there, kept-before, kept-beyond}
 use Rattle.protocol.specs.declared.StreamFrame.{StreamFrame}
 use Rattle.streams.specs.declared.StreamQueue.{StreamQueue}
 use Rattle.streams.specs.Layout.{FRAME, frameOf}

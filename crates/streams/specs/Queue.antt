@@ -6,7 +6,7 @@ use mathlib.Core.List.{List}
 use lib.Dec.{ltb, leb, eqb}
 use lib.ListN.{length, replicate}
 use Rattle.choice.specs.Pick.{pick, and}
-use Rattle.store.specs.Room.{placed}
+use Rattle.room.specs.Room.{placed}
 use Rattle.crc.specs.Crc.{crcOf}
 use Rattle.protocol.specs.declared.lsf.LsfFrame.{LsfFrame}
 use Rattle.protocol.specs.declared.StreamFrame.{StreamFrame}

@@ -9,7 +9,7 @@ use lib.ListN.{length, take, drop, length-take}
 use lib.Seq.{length-take-le}
 use borrow.Author.Tests.{le-leb, ltb-true, ltb-false}
 use Rattle.choice.specs.Pick.{pick-all, and-snd, and-both}
-use Rattle.store.proofs.Places.{placed-length}
+use Rattle.room.proofs.Places.{placed-length}
 use Rattle.protocol.specs.Lsf.{part, fieldOf, modeBits}
 use Rattle.protocol.specs.Kinds.{modeOf}
 use Rattle.protocol.specs.declared.PacketFrameCounter.{PacketFrameCounter}

@@ -5,7 +5,7 @@ use mathlib.Core.List.{List, [], _∷_, _++_, append-assoc, append-nil}
 use native.Mathlib.Omega.{arith}
 use lib.ListN.{length, take, drop, length-append}
 use lib.Seq.{length-take-le, take-at, drop-at}
-use Rattle.store.specs.Room.{placed}
+use Rattle.room.specs.Room.{placed}
 use Rattle.protocol.specs.Lsf.{part}
 use Rattle.protocol.specs.declared.PacketFrame.{PacketFrame}
 use Rattle.protocol.specs.declared.PacketFrameCounter.the-variants.{Frame as Counted, FinalFrame as Final}

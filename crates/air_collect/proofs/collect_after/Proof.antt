@@ -5,7 +5,7 @@ use native.Mathlib.Omega.{arith}
 use borrow.Author.Needs.{needs}
 use lib.ListN.{length}
 use lib.Seq.{sets-eq}
-use Rattle.store.proofs.Copies.{copied-in}
+use Rattle.room.proofs.Copies.{copied-in}
 use Rattle.air_collect.specs.Collected.{placeOf}
 use Rattle.air_collect.proofs.Orders.{wrong-store, in-store, out-of-order, too-many, next-one}
 use Rattle.air_collect.proofs.collect_after.Statement.{statement}

@@ -3,9 +3,9 @@ use Prim.Native.Nat.{_≤_}
 use mathlib.Core.Path.{_≡_, _∙_}
 use native.Mathlib.Omega.{arith}
 use lib.ListN.{length}
-use Rattle.store.specs.Room.{over}
-use Rattle.store.proofs.Copies.{copied-in}
-use Rattle.store.proofs.Runs.{put-front}
+use Rattle.room.specs.Room.{over}
+use Rattle.room.proofs.Copies.{copied-in}
+use Rattle.room.proofs.Runs.{put-front}
 use borrow.Author.Needs.{needs}
 use Rattle.air_lsf.proofs.begin_packet.Statement.{statement}
 use Rattle.air_lsf.proofs.begin_packet.Tie as tie

@@ -7,7 +7,7 @@ use borrow.Author.Needs.{needs}
 use lib.Seq.{sets}
 use lib.ListN.{length, drop, length-set}
 use Rattle.event_line.specs.Line.{hexOf}
-use Rattle.store.proofs.Runs.{put-two}
+use Rattle.room.proofs.Runs.{put-two}
 use Rattle.event_line.proofs.Lines.{hex-length, hex-at, hex-done}
 use Rattle.event_line.proofs.write_hex.Statement.{statement}
 use Rattle.event_line.proofs.write_hex.Tie as tie

@@ -6,8 +6,8 @@ use native.Mathlib.Omega.{arith}
 use borrow.Author.Needs.{needs}
 use lib.ListN.{length, set, replicate, length-append}
 use lib.Seq.{sets}
-use Rattle.store.proofs.Runs.{put-all, sets-append}
-use Rattle.store.proofs.Copies.{copied-in}
+use Rattle.room.proofs.Runs.{put-all, sets-append}
+use Rattle.room.proofs.Copies.{copied-in}
 use Rattle.event_packet.specs.Packet.{packetBody}
 use Rattle.event_packet.proofs.packet_body.Statement.{statement}
 use Rattle.event_packet.proofs.packet_body.Tie as tie

@@ -9,8 +9,8 @@ use borrow.Author.Needs.{needs}
 use lib.ListN.{length, take, getD, replicate}
 use lib.Seq.{length-take-le}
 use Rattle.choice.specs.Pick.{tests}
-use Rattle.store.proofs.Runs.{put-all}
-use Rattle.store.proofs.Copies.{copied-in}
+use Rattle.room.proofs.Runs.{put-all}
+use Rattle.room.proofs.Copies.{copied-in}
 use Rattle.protocol.specs.declared.PacketFrameCounter.the-variants.{Frame, FinalFrame}
 use Rattle.protocol.specs.Lsf.{part}
 use Rattle.event_packet.specs.Packet.{packetOf, counterOf}

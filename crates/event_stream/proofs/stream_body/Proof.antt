@@ -6,7 +6,7 @@ use native.Mathlib.Omega.{arith}
 use borrow.Author.Needs.{needs}
 use lib.ListN.{length, set, replicate, length-set}
 use lib.Seq.{sets, length-sets}
-use Rattle.store.proofs.Copies.{copied-in}
+use Rattle.room.proofs.Copies.{copied-in}
 use Rattle.streams.specs.Layout.{bytesOf}
 use Rattle.stream_bytes.proofs.Stored.{frame-stored}
 use Rattle.event_stream.proofs.stream_body.Statement.{statement}

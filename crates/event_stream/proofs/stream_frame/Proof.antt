@@ -10,8 +10,8 @@ use borrow.Author.Needs.{needs}
 use lib.Dec.{eqb}
 use lib.ListN.{length, drop, getD, replicate, length-drop}
 use lib.Seq.{length-take-le}
-use Rattle.store.proofs.Runs.{put-all}
-use Rattle.store.proofs.Copies.{copied-in}
+use Rattle.room.proofs.Runs.{put-all}
+use Rattle.room.proofs.Copies.{copied-in}
 use Rattle.protocol.specs.Lsf.{part}
 use Rattle.streams.specs.Layout.{frameOf}
 use Rattle.event_stream.proofs.stream_frame.Statement.{statement}

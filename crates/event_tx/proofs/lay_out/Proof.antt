@@ -4,7 +4,7 @@ use mathlib.Core.List.{[], _∷_}
 use native.Mathlib.Omega.{arith}
 use borrow.Author.Needs.{needs}
 use lib.ListN.{length}
-use Rattle.store.proofs.Copies.{copied-in}
+use Rattle.room.proofs.Copies.{copied-in}
 use Rattle.tx_frame.specs.declared.TxAnswer.{TxAnswer}
 use Rattle.event_tx.specs.Tx.{frameBytes}
 use Rattle.event_tx.proofs.Answers.{laid-none, laid-some}

@@ -7,8 +7,8 @@ use mathlib.Core.List.{_++_}
 use native.Mathlib.Omega.{arith}
 use borrow.Author.Needs.{needs}
 use lib.ListN.{length, take, length-take}
-use Rattle.store.specs.Room.{over}
-use Rattle.store.proofs.Copies.{copied-in}
+use Rattle.room.specs.Room.{over}
+use Rattle.room.proofs.Copies.{copied-in}
 use Rattle.kiss_calls.specs.declared.WriteAnswer.the-variants.{Done}
 use Rattle.kiss_reader.specs.Reader.{STORE}
 use Rattle.kiss_calls.specs.Inside.{accepted}

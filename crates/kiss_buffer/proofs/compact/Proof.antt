@@ -5,8 +5,8 @@ use mathlib.Core.List.{List}
 use native.Mathlib.Omega.{arith}
 use borrow.Author.Needs.{needs}
 use lib.ListN.{length, take, drop, length-take, length-drop}
-use Rattle.store.specs.Room.{over}
-use Rattle.store.proofs.Copies.{shifted-in}
+use Rattle.room.specs.Room.{over}
+use Rattle.room.proofs.Copies.{shifted-in}
 use Rattle.kiss_reader.specs.Reader.{settle}
 use Rattle.kiss_calls.specs.Inside.{compacted}
 use Rattle.kiss_calls.proofs.Inner.{settled-part, settled-within}

@@ -7,7 +7,7 @@ use borrow.Author.Needs.{needs}
 use lib.Seq.{sets}
 use lib.ListN.{length, drop, getD, length-set}
 use Rattle.kiss_layout.specs.Escape.{FESC, esc}
-use Rattle.store.proofs.Runs.{put-one, put-two, put-front}
+use Rattle.room.proofs.Runs.{put-one, put-two, put-front}
 use Rattle.kiss_layout.proofs.Escapes.{esc-at-special, esc-at-plain, esc-done}
 use Rattle.kiss_escape.proofs.put_escaped.Statement.{statement}
 use Rattle.kiss_escape.proofs.put_escaped.Tie as tie

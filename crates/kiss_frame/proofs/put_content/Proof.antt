@@ -7,7 +7,7 @@ use borrow.Author.Needs.{needs}
 use borrow.Rule.Slice.PartMut.{midOf, putMid}
 use lib.ListN.{length, length-take, length-drop}
 use lib.Seq.{sets}
-use Rattle.store.proofs.Parts.{lent-over}
+use Rattle.room.proofs.Parts.{lent-over}
 use Rattle.kiss_layout.specs.Escape.{esc}
 use Rattle.kiss_layout.specs.declared.Escaped.{Escaped}
 use Rattle.kiss_layout.specs.declared.Escaped.the-variants.{Wrote, NoRoom}

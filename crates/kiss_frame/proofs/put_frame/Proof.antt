@@ -7,7 +7,7 @@ use borrow.Author.Needs.{needs}
 use borrow.Author.Tests.{leb-true, leb-false}
 use lib.ListN.{length, set, length-set}
 use lib.Seq.{sets, length-sets}
-use Rattle.store.specs.Room.{over}
+use Rattle.room.specs.Room.{over}
 use Rattle.kiss_layout.specs.declared.Built.the-variants.{Frame}
 use Rattle.kiss_layout.specs.Escape.{FEND, esc}
 use Rattle.kiss_layout.specs.Frame.{frame}

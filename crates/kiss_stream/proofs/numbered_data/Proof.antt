@@ -5,8 +5,8 @@ use mathlib.Core.List.{List, _∷_}
 use native.Mathlib.Omega.{arith}
 use borrow.Author.Needs.{needs}
 use lib.ListN.{length, set, replicate}
-use Rattle.store.proofs.Runs.{put-all}
-use Rattle.store.proofs.Copies.{copied-in}
+use Rattle.room.proofs.Runs.{put-all}
+use Rattle.room.proofs.Copies.{copied-in}
 use Rattle.kiss_layout.specs.Stream.{numberedData}
 use Rattle.kiss_layout.proofs.Streams.{endMark-small}
 use Rattle.kiss_stream.proofs.numbered_data.Statement.{statement}

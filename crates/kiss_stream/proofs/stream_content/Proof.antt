@@ -6,7 +6,7 @@ use native.Mathlib.Omega.{arith}
 use borrow.Author.Needs.{needs}
 use lib.ListN.{length, set, replicate, length-set}
 use lib.Seq.{sets, length-sets}
-use Rattle.store.proofs.Copies.{copied-in}
+use Rattle.room.proofs.Copies.{copied-in}
 use Rattle.crc.specs.Crc.{twoBytes, sealed}
 use Rattle.kiss_layout.specs.Stream.{streamContent}
 use Rattle.kiss_layout.proofs.Streams.{content-stored}

@@ -5,7 +5,7 @@ use mathlib.Core.List.{List}
 use native.Mathlib.Omega.{arith}
 use borrow.Author.Needs.{needs}
 use lib.ListN.{length, replicate, length-take, length-drop}
-use Rattle.store.proofs.Copies.{copied-in}
+use Rattle.room.proofs.Copies.{copied-in}
 use Rattle.lsf_layout.specs.Bytes.{part}
 use Rattle.lsf_bytes.specs.Bytes.{meta}
 use Rattle.lsf_bytes.proofs.Stored.{stored-last}

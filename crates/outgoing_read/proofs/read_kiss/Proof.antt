@@ -8,9 +8,9 @@ use native.Mathlib.Omega.{arith}
 use borrow.Author.Needs.{needs}
 use lib.ListN.{length, take, drop, length-take}
 use Rattle.choice.specs.Pick.{not-yes, not-no}
-use Rattle.store.specs.Room.{over}
-use Rattle.store.proofs.Copies.{copied-in}
-use Rattle.store.proofs.Runs.{put-front}
+use Rattle.room.specs.Room.{over}
+use Rattle.room.proofs.Copies.{copied-in}
+use Rattle.room.proofs.Runs.{put-front}
 use Rattle.outgoing.specs.declared.HostAnswer.the-variants.{Done}
 use Rattle.outgoing.specs.Message.{STORE, soundMessage, readUpTo, given}
 use Rattle.outgoing.proofs.Messages.{sound-read, sound-len, read-wrong, read-unsound, read-sound}

@@ -5,7 +5,7 @@ use native.Mathlib.Omega.{arith}
 use borrow.Author.Needs.{needs}
 use lib.ListN.{replicate, length-replicate}
 use lib.Seq.{sets}
-use Rattle.store.proofs.Copies.{copied-in}
+use Rattle.room.proofs.Copies.{copied-in}
 use Rattle.packet_basic.proofs.Rooms.{decoded-at}
 use Rattle.packet_basic.proofs.decode_into.Statement.{statement}
 use Rattle.packet_basic.proofs.decode_into.Tie as tie

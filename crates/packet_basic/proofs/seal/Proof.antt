@@ -6,7 +6,7 @@ use native.Mathlib.Omega.{arith}
 use borrow.Author.Needs.{needs}
 use lib.ListN.{length, length-set}
 use lib.Seq.{sets, length-sets}
-use Rattle.store.proofs.Copies.{copied-in}
+use Rattle.room.proofs.Copies.{copied-in}
 use Rattle.packet_basic.proofs.Rooms.{sealed-at}
 use Rattle.packet_basic.proofs.seal.Statement.{statement}
 use Rattle.packet_basic.proofs.seal.Tie as tie

@@ -6,8 +6,8 @@ use borrow.Author.Tests.{le-leb, lt-leb}
 use lib.ListN.{length, take, replicate}
 use lib.Seq.{length-take-le}
 use Rattle.choice.specs.Pick.{pick-yes, pick-no}
-use Rattle.store.proofs.Copies.{copied-in}
-use Rattle.store.proofs.Runs.{put-all, put-front}
+use Rattle.room.proofs.Copies.{copied-in}
+use Rattle.room.proofs.Runs.{put-all, put-front}
 use Rattle.packets.specs.Frames.{zeros, padded, chunk}
 use Rattle.packet_frame.proofs.first_frame.Statement.{statement}
 use Rattle.packet_frame.proofs.first_frame.Tie as tie

@@ -8,7 +8,7 @@ use borrow.Author.Needs.{needs}
 use borrow.Author.Tests.{not-true, not-false}
 use lib.ListN.{length}
 use lib.Seq.{length-take-le, sets-eq}
-use Rattle.store.proofs.Copies.{copied-in}
+use Rattle.room.proofs.Copies.{copied-in}
 use Rattle.kiss_layout.specs.declared.Decoded.{Decoded}
 use Rattle.kiss_layout.specs.Read.{decoded}
 use Rattle.packets.specs.Frames.{zeros}

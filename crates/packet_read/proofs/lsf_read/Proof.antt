@@ -4,8 +4,8 @@ use mathlib.Core.Path.{_≡_, ap, _∙_}
 use native.Mathlib.Omega.{arith}
 use borrow.Author.Needs.{needs}
 use lib.ListN.{length, replicate, length-take, length-drop}
-use Rattle.store.proofs.Copies.{copied-in}
-use Rattle.store.proofs.Runs.{put-all}
+use Rattle.room.proofs.Copies.{copied-in}
+use Rattle.room.proofs.Runs.{put-all}
 use Rattle.protocol.specs.Lsf.{part}
 use Rattle.packets.specs.Queue.{ROOM, withPlace, lsfRead}
 use Rattle.packets.proofs.Bounds.{at-here}

@@ -2,8 +2,8 @@
 use mathlib.Core.Path.{sym, _∙_}
 use native.Mathlib.Omega.{arith}
 use borrow.Author.Needs.{needs}
-use Rattle.store.specs.declared.Copied.the-variants.{Done}
-use Rattle.store.proofs.Copies.{copied-yes, copied-no}
+use Rattle.room.specs.declared.Copied.the-variants.{Done}
+use Rattle.room.proofs.Copies.{copied-yes, copied-no}
 use Rattle.store.proofs.copy_in.Statement.{statement}
 use Rattle.store.proofs.copy_in.Tie as tie
 

@@ -8,7 +8,7 @@ use borrow.Author.Needs.{needs}
 use mathlib.Core.List.{List, _∷_}
 use lib.ListN.{length, drop, getD, set, drop-of-length-le}
 use lib.Seq.{sets, drop-cons}
-use Rattle.store.proofs.Runs.{put-one}
+use Rattle.room.proofs.Runs.{put-one}
 use Rattle.store.proofs.put.Statement.{statement}
 use Rattle.store.proofs.put.Tie as tie
 

@@ -2,8 +2,8 @@
 use mathlib.Core.Path.{sym, _∙_}
 use native.Mathlib.Omega.{arith}
 use borrow.Author.Needs.{needs}
-use Rattle.store.specs.declared.Copied.the-variants.{Done}
-use Rattle.store.proofs.Copies.{shifted-yes, shifted-beyond, shifted-turned}
+use Rattle.room.specs.declared.Copied.the-variants.{Done}
+use Rattle.room.proofs.Copies.{shifted-yes, shifted-beyond, shifted-turned}
 use Rattle.store.proofs.shift.Statement.{statement}
 use Rattle.store.proofs.shift.Tie as tie
 

@@ -8,7 +8,7 @@ use native.Mathlib.Omega.{arith}
 use borrow.Author.Needs.{needs}
 use lib.ListN.{length, take, drop, getD, set, replicate, length-drop, length-set}
 use lib.Seq.{sets, length-sets, length-take-le}
-use Rattle.store.proofs.Copies.{copied-in}
+use Rattle.room.proofs.Copies.{copied-in}
 use Rattle.protocol.specs.Lsf.{part}
 use Rattle.stream_bytes.proofs.Stored.{frame-stored, payload-stored}
 use Rattle.stream_bytes.proofs.frame_bytes.Statement.{statement}

@@ -6,8 +6,8 @@ use native.Mathlib.Omega.{arith}
 use borrow.Author.Needs.{needs}
 use lib.ListN.{length, drop, replicate, length-drop}
 use lib.Seq.{length-take-le}
-use Rattle.store.proofs.Runs.{put-all}
-use Rattle.store.proofs.Copies.{copied-in}
+use Rattle.room.proofs.Runs.{put-all}
+use Rattle.room.proofs.Copies.{copied-in}
 use Rattle.protocol.specs.Lsf.{part}
 use Rattle.streams.specs.Queue.{LSF, lsfRead}
 use Rattle.stream_read.proofs.read_lsf.Statement.{statement}

@@ -7,7 +7,7 @@ use native.Mathlib.Omega.{arith}
 use borrow.Author.Needs.{needs}
 use lib.ListN.{length, take}
 use lib.Seq.{sets-eq, length-take-le}
-use Rattle.store.proofs.Copies.{copied-in}
+use Rattle.room.proofs.Copies.{copied-in}
 use Rattle.air_collect.specs.Collected.{placeOf}
 use Rattle.tnc_air.specs.Heard.{completed, packetTold, finishedAfter}
 use Rattle.tnc_air.proofs.finish_after.Statement.{statement}

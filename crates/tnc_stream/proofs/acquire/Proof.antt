@@ -5,9 +5,9 @@ use mathlib.Core.List.{List}
 use native.Mathlib.Omega.{arith}
 use lib.ListN.{length, take, replicate}
 use lib.Seq.{length-take-le}
-use Rattle.store.specs.Room.{over}
-use Rattle.store.proofs.Copies.{copied-in}
-use Rattle.store.proofs.Runs.{put-all}
+use Rattle.room.specs.Room.{over}
+use Rattle.room.proofs.Copies.{copied-in}
+use Rattle.room.proofs.Runs.{put-all}
 use Rattle.lich.specs.declared.LichCollection.{LichCollection}
 use Rattle.lich.specs.Lich.{segmentSet}
 use Rattle.stream_acquire.specs.Acquired.{withFrame}

@@ -6,8 +6,8 @@ use borrow.Author.Needs.{needs}
 use lib.ListN.{length}
 use lib.Seq.{sets-eq}
 use Rattle.choice.specs.Pick.{tests}
-use Rattle.store.specs.Room.{placed}
-use Rattle.store.proofs.Copies.{copied-in}
+use Rattle.room.specs.Room.{placed}
+use Rattle.room.proofs.Copies.{copied-in}
 use Rattle.lich.specs.Lich.{withSegment, segmentSet}
 use Rattle.lich.proofs.Masks.{or-is}
 use Rattle.lich.proofs.LichCollection.set_segment.Statement.{statement}

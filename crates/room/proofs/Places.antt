@@ -5,7 +5,7 @@ use mathlib.Core.List.{List, _++_, append-assoc}
 use native.Mathlib.Omega.{arith}
 use lib.ListN.{length, take, drop, length-drop, take-append-drop}
 use lib.Seq.{sets-eq, length-sets, length-take-le, take-append-le, take-at, drop-append-le, drop-append-add, drop-at, drop-drop}
-use Rattle.store.specs.Room.{placed}
+use Rattle.room.specs.Room.{placed}
 
 before : (a b : List ℕ) (m n : ℕ) → m + n ≤ length a → take n (drop m (a ++ b)) ≡ take n (drop m a)
 before a b m n h = rw (drop-append-le m a b (omega arith)) (take-append-le n (drop m a) b (omega (arith, length-drop m a)))

@@ -5,8 +5,8 @@ use mathlib.Core.List.{List, _++_}
 use lib.Dec.{leb}
 use lib.ListN.{length, take, drop}
 use Rattle.choice.specs.Pick.{pick, and}
-use Rattle.store.specs.declared.Copied.{Copied}
-use Rattle.store.specs.declared.Copied.the-variants.{Done, NoRoom}
+use Rattle.room.specs.declared.Copied.{Copied}
+use Rattle.room.specs.declared.Copied.the-variants.{Done, NoRoom}
 
 -- whether xs fits into the room d; an exact fit is one
 abbrev pub fits : List ℕ → List ℕ → Bool

@@ -7,7 +7,7 @@ use native.Mathlib.Numerals.{add-one}
 use native.Mathlib.Omega.{arith}
 use lib.ListN.{length, set, drop-of-length-le}
 use lib.Seq.{sets, sets-eq}
-use Rattle.store.specs.Room.{over}
+use Rattle.room.specs.Room.{over}
 
 pub put-one : (d : List ℕ) (j : ℕ) {a : ℕ} {e t r : List ℕ} → e ≡ a ∷ t → sets d j e ≡ r → sets (set d j a) (j + 1) t ≡ r
 put-one d j q h = rw add-one (rw q at h)

@@ -8,9 +8,9 @@ use lib.ListN.{length, take, drop}
 use lib.Seq.{sets, sets-eq}
 use borrow.Author.Tests.{le-leb, lt-leb}
 use Rattle.choice.specs.Pick.{pick, and}
-use Rattle.store.specs.Room.{over, copied, shifted}
-use Rattle.store.specs.declared.Copied.{Copied}
-use Rattle.store.specs.declared.Copied.the-variants.{Done, NoRoom}
+use Rattle.room.specs.Room.{over, copied, shifted}
+use Rattle.room.specs.declared.Copied.{Copied}
+use Rattle.room.specs.declared.Copied.the-variants.{Done, NoRoom}
 
 pub copied-yes : (s d : List ℕ) (at : ℕ) → at + length s ≤ length d → copied s d at ≡ (Done, sets d at s)
 unfolding copied pick

@@ -6,7 +6,7 @@ use native.Mathlib.Omega.{arith}
 use lib.ListN.{length, take, drop, length-take, length-drop, take-append-drop}
 use lib.Seq.{sets, sets-eq, drop-append-le, drop-drop}
 use borrow.Rule.Slice.PartMut.{midOf, putMid}
-use Rattle.store.specs.Room.{over}
+use Rattle.room.specs.Room.{over}
 
 -- the k elements from a on were lent, and a callee wrote v over their start: v is stored from a on
 pub lent-over : (a k : ℕ) (d v : List ℕ) → a + k ≤ length d → length v ≤ k → putMid a k d (over v (midOf a k d)) ≡ sets d a v
