@@ -29,7 +29,7 @@ pub fn lsf(before: EventBox, body: &[u8], rx: &mut [u8], message: &mut [u8]) -> 
     let channel = before.channel;
     let mut thirty = [0u8; 30];
     store::copy_in(body, &mut thirty, 0);
-    let heard = tnc_receive::handle_lsf(tnc, LsfFrame(thirty), rx, message);
+    let heard = receive_lsf::handle_lsf(tnc, LsfFrame(thirty), rx, message);
     let given = heard.answer;
     let tnc_after = heard.tnc;
     answer(air_number(given), 0, tnc_after, channel)
@@ -45,7 +45,7 @@ pub fn packet(before: EventBox, body: &[u8], rx: &mut [u8], message: &mut [u8]) 
     let channel = before.channel;
     let mut all = [0u8; 26];
     store::copy_in(body, &mut all, 0);
-    let heard = tnc_receive::handle_packet(tnc, event_packet::packet_frame(all), rx, message);
+    let heard = receive_packet::handle_packet(tnc, event_packet::packet_frame(all), rx, message);
     let given = heard.answer;
     let tnc_after = heard.tnc;
     answer(air_number(given), 0, tnc_after, channel)
@@ -61,7 +61,7 @@ pub fn stream(before: EventBox, body: &[u8], rx: &mut [u8], message: &mut [u8]) 
     let channel = before.channel;
     let mut all = [0u8; 25];
     store::copy_in(body, &mut all, 0);
-    let heard = tnc_receive::handle_stream(tnc, event_stream::stream_frame(all), rx, message);
+    let heard = receive_stream::handle_stream(tnc, event_stream::stream_frame(all), rx, message);
     let given = heard.answer;
     let tnc_after = heard.tnc;
     answer(air_number(given), 0, tnc_after, channel)
