@@ -32,7 +32,8 @@ use Rattle.radio.proofs.Kept as radio
 use Rattle.air_lsf.specs.Begun.{begun, lsfHeard}
 use Rattle.air_collect.specs.Collected.{collectedAfter}
 use Rattle.tnc_air.specs.Heard.{collectedIn, finishedAfter, finishedIn, finished, counted, packetHeard}
-use Rattle.stream_acquire.specs.Acquired.{restarted, acquiredWith}
+use Rattle.stream_restart.specs.Restarted.{restarted}
+use Rattle.stream_acquire.specs.Acquired.{acquiredWith}
 use Rattle.stream_follow.specs.Followed.{followed}
 use Rattle.tnc_stream.specs.Stream.{acquired, receivedIn, ranged, streamHeard}
 use Rattle.tnc_core.specs.Tnc.{soundTnc, withRadio}

@@ -1,15 +1,17 @@
--- What `restart` and `complete` do with any frame, collection and store: by what their callees do. From no document: no promise rests on these. Assumes nothing.
+-- What `complete` does with any collection and store: by what its callees do. From no document: no promise rests on it. Assumes nothing.
 use Prim.Native.Nat.{ℕ, _+_}
 use mathlib.Core.List.{List}
 use lib.Dec.{eqb, ltb}
 use Rattle.choice.specs.Pick.{pick}
+<<<<<<< HEAD
 use Rattle.room.specs.Room.{copied}
+=======
+>>>>>>> hc
 use Rattle.crc.specs.Crc.{crcOf}
-use Rattle.protocol.specs.declared.StreamFrame.{StreamFrame}
 use Rattle.lich.specs.declared.LichCollection.{LichCollection}
 use Rattle.lich.specs.declared.Assembly.{Assembly}
 use Rattle.lich.specs.declared.Assembly.the-variants.{Whole, Missing, OutOfBounds}
-use Rattle.lich.specs.Lich.{newCollection, segmentSet, assembled}
+use Rattle.lich.specs.Lich.{assembled}
 use Rattle.kiss_layout.specs.Build.{streamSetup, built}
 use Rattle.state.specs.declared.State.the-variants.{RxStream}
 use Rattle.radio.specs.declared.Radio.{Radio}
@@ -17,15 +19,7 @@ use Rattle.radio.specs.declared.AirAnswer.the-variants.{OutOfRange}
 use Rattle.radio.specs.declared.Heard.{Heard}
 use Rattle.radio.specs.Radio.{answered}
 use Rattle.radio_told.specs.Inside.{toldOf}
-use Rattle.stream_acquire.specs.Acquired.{collecting}
-
--- a collection is what is being collected, and stands at the store's start where it fits
-abbrev pub keptIn : Radio → List ℕ → LichCollection → Heard × List ℕ
-keptIn r rx c = (collecting r c, copied (c .segments) rx 0 .1)
-
--- a segment that has no place in the new collection is not in it
-unfoldable pub restartedBy : Radio → StreamFrame → List ℕ → Heard × List ℕ
-restartedBy r f rx = keptIn r rx (segmentSet newCollection (f .«lich_idx») (f .«lich_part») .collection)
+use Rattle.stream_restart.specs.Restarted.{collecting}
 
 -- an LSF whose CRC is 0 goes to the host; where its builder refuses the store, there is no message
 abbrev pub byAssembly : Radio → LichCollection → ℕ → List ℕ → Assembly → List ℕ → Heard × List ℕ

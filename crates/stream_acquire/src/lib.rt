@@ -1,29 +1,16 @@
-// LICH acquisition, as m17core's tnc.rs has it: an LSF gathered from the segments that stream frames bring. The segments stand at the start of a store of 855 bytes that the
-// caller lends, their mask in the state; the message to the host in a store of 1,713 bytes.
+// LICH acquisition, as m17core's tnc.rs has it: an LSF gathered from the segments that stream frames bring. Their mask stands in the state, the message to the host in a store
+// of 1,713 bytes that the caller lends.
 use kiss_build_stream::new_stream_setup;
 use lich::Assembly;
 use lich::LichCollection;
 use protocol::LsfFrame;
-use protocol::StreamFrame;
 use radio::AirAnswer;
 use radio::Heard;
 use radio::Radio;
 use radio_told::told;
 use state::State;
 ghost use mathlib.Core.Path.{_≡_};
-ghost use Rattle.stream_acquire.specs.Inside.{restartedBy, acquiredBy};
-
-// Acquisition of the LSF begins anew, with this frame's segment.
-pub fn restart(radio: Radio, frame: StreamFrame, rx: &mut [u8]) -> Heard
-    ensures { λ r. ⌜ (r, now (rx .exit)) ≡ restartedBy radio frame (now (rx .entry)) ⌝ }
-{
-    let part = frame.lich_part;
-    let set = LichCollection::new().set_segment(frame.lich_idx, part);
-    let collection = set.collection;
-    let segments = collection.segments;
-    store::copy_in(&segments, rx, 0);
-    radio.turned(State::RxAcquiringStream(collection.mask))
-}
+ghost use Rattle.stream_acquire.specs.Inside.{acquiredBy};
 
 // The LSF goes to the host once all its segments have been heard and its CRC is right. This frame's data and its end are passed over.
 pub fn complete(radio: Radio, collection: LichCollection, number: u16, out: &mut [u8]) -> Heard

@@ -17,9 +17,9 @@ use Rattle.radio.specs.Radio.{RX, MESSAGE, answered, toHost}
 use Rattle.radio_told.specs.Inside.{toldOf}
 use Rattle.radio.proofs.Messages.{data-accepted}
 use Rattle.radio_told.proofs.Tells.{told}
-use Rattle.stream_acquire.specs.Acquired.{restarted}
-use Rattle.stream_acquire.specs.Inside.{restartedBy}
-use Rattle.stream_acquire.proofs.Segments.{restarted-as}
+use Rattle.stream_restart.specs.Restarted.{restarted}
+use Rattle.stream_restart.specs.Inside.{restartedBy}
+use Rattle.stream_restart.proofs.Segments.{restarted-as}
 use Rattle.stream_follow.specs.Followed.{behind, followed}
 use Rattle.stream_follow.specs.Inside.{followedBy}
 

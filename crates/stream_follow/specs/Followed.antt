@@ -10,7 +10,7 @@ use Rattle.state.specs.declared.State.the-variants.{Idle, RxStream}
 use Rattle.radio.specs.declared.Radio.{Radio}
 use Rattle.radio.specs.declared.Heard.{Heard}
 use Rattle.radio.specs.Radio.{toHost}
-use Rattle.stream_acquire.specs.Acquired.{restarted}
+use Rattle.stream_restart.specs.Restarted.{restarted}
 
 -- the state behind a frame: none is being received where it is marked as the end, else the next number is expected
 abbrev pub behind : StreamFrame → State

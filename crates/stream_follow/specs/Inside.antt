@@ -10,7 +10,7 @@ use Rattle.radio.specs.declared.AirAnswer.the-variants.{OutOfRange}
 use Rattle.radio.specs.declared.Heard.{Heard}
 use Rattle.radio.specs.Radio.{answered}
 use Rattle.radio_told.specs.Inside.{toldOf}
-use Rattle.stream_acquire.specs.Inside.{restartedBy}
+use Rattle.stream_restart.specs.Inside.{restartedBy}
 use Rattle.stream_follow.specs.Followed.{behind}
 
 -- a number over 32,767 is refused, as no number may follow it; where the builder refuses the frame or the store, there is no message

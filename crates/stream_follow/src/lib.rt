@@ -6,7 +6,7 @@ use radio::Heard;
 use radio::Radio;
 use radio_told::told;
 use state::State;
-use stream_acquire::restart;
+use stream_restart::restart;
 ghost use mathlib.Core.Path.{_≡_};
 ghost use Rattle.stream_follow.specs.Inside.{followedBy};
 

@@ -29,8 +29,9 @@ use Rattle.radio.specs.Promises.{Told}
 use Rattle.radio.proofs.Messages.{setup-accepted, data-accepted, length-over}
 use Rattle.radio.proofs.Kept.{listened-to, each, to-host-is-told, told-stays-sound}
 use Rattle.radio.proofs.Kept.{sending-hears-nothing as nothing}
-use Rattle.stream_acquire.specs.Acquired.{withFrame, collecting, complete, restarted, acquiredWith}
-use Rattle.stream_acquire.proofs.Segments.{frame-mask, frame-thirty}
+use Rattle.stream_restart.specs.Restarted.{withFrame, collecting, restarted}
+use Rattle.stream_restart.proofs.Segments.{frame-mask, frame-thirty}
+use Rattle.stream_acquire.specs.Acquired.{complete, acquiredWith}
 use Rattle.stream_follow.specs.Followed.{behind, followed}
 use Rattle.stream_follow.proofs.Follows.{forward}
 use Rattle.stream_follow.proofs.Follows.{backward as goes-back}

@@ -21,7 +21,8 @@ use Rattle.radio.specs.declared.Heard.{Heard}
 use Rattle.radio.specs.Radio.{answered, airNumber}
 use Rattle.radio.specs.Box.{Box, leftBy, Sound, Receiving}
 use Rattle.radio.specs.Promises.{Told}
-use Rattle.stream_acquire.specs.Acquired.{withFrame, complete}
+use Rattle.stream_restart.specs.Restarted.{withFrame}
+use Rattle.stream_acquire.specs.Acquired.{complete}
 use Rattle.stream_follow.specs.Followed.{behind}
 use Rattle.tnc_stream.specs.Stream.{streamHeard}
 

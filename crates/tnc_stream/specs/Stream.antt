@@ -14,7 +14,8 @@ use Rattle.radio.specs.declared.Radio.{Radio}
 use Rattle.radio.specs.declared.AirAnswer.the-variants.{OutOfRange}
 use Rattle.radio.specs.declared.Heard.{Heard}
 use Rattle.radio.specs.Radio.{answered, unlessSending}
-use Rattle.stream_acquire.specs.Acquired.{withFrame, restarted, acquiredWith}
+use Rattle.stream_restart.specs.Restarted.{withFrame, restarted}
+use Rattle.stream_acquire.specs.Acquired.{acquiredWith}
 use Rattle.stream_follow.specs.Followed.{followed}
 
 -- ---- LICH acquisition

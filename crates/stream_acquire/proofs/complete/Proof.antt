@@ -1,6 +1,6 @@
 -- `stream_acquire::complete` meets its contract. Assumes nothing.
 use mathlib.Core.Path.{_∙_}
-use Rattle.stream_acquire.proofs.Segments.{number-over, answered-as, wrong-crc, right-crc}
+use Rattle.stream_acquire.proofs.Assemblies.{number-over, answered-as, wrong-crc, right-crc}
 use borrow.Author.Needs.{needs}
 use Rattle.stream_acquire.proofs.complete.Statement.{statement}
 use Rattle.stream_acquire.proofs.complete.Tie as tie

@@ -1,7 +1,7 @@
 -- `tnc_stream::listen` meets its contract. Assumes nothing.
 use mathlib.Core.Path.{_≡_, _∙_}
 use lib.ListN.{length}
-use Rattle.stream_acquire.proofs.Segments.{restarted-as}
+use Rattle.stream_restart.proofs.Segments.{restarted-as}
 use Rattle.stream_follow.proofs.Follows.{followed-as}
 use Rattle.tnc_stream.proofs.Frames.{index-over, number-over, received-as, mask-in}
 use borrow.Author.Needs.{needs}

@@ -1,12 +1,12 @@
--- `stream_acquire::restart` meets its contract. Assumes nothing.
+-- `stream_restart::restart` meets its contract. Assumes nothing.
 use mathlib.Core.Path.{ap, _∙_}
 use Rattle.lich.specs.declared.LichCollection.{LichCollection}
 use Rattle.lich.specs.declared.SegmentSet.{SegmentSet}
 use Rattle.lich.specs.Lich.{segmentSet}
-use Rattle.stream_acquire.specs.Inside.{keptIn, restartedBy}
+use Rattle.stream_restart.specs.Inside.{keptIn, restartedBy}
 use borrow.Author.Needs.{needs}
-use Rattle.stream_acquire.proofs.restart.Statement.{statement}
-use Rattle.stream_acquire.proofs.restart.Tie as tie
+use Rattle.stream_restart.proofs.restart.Statement.{statement}
+use Rattle.stream_restart.proofs.restart.Tie as tie
 
 returns : tie.Need-returns
 unfolding restartedBy
