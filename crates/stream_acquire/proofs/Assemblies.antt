@@ -7,14 +7,6 @@ use borrow.Author.Tests.{lt-leb, lt-ltb, le-ltb, eq-eqb, ne-eqb}
 use lib.Dec.{eqb}
 use lib.ListN.{length, replicate}
 use Rattle.choice.specs.Pick.{pick, and}
-<<<<<<< HEAD:crates/stream_acquire/proofs/Segments.antt
-use Rattle.room.specs.declared.Copied.{Copied}
-use Rattle.room.specs.Room.{over, copied}
-use Rattle.room.proofs.Places.{placed-length}
-use Rattle.room.proofs.Copies.{copied-in}
-use Rattle.room.proofs.Runs.{put-front}
-=======
->>>>>>> hc:crates/stream_acquire/proofs/Assemblies.antt
 use Rattle.crc.specs.Crc.{crcOf}
 use Rattle.lich.specs.declared.LichCollection.{LichCollection}
 use Rattle.lich.specs.declared.Assembled.{Assembled}

@@ -4,10 +4,6 @@ use mathlib.Core.Bool.{Bool}
 use mathlib.Core.List.{List}
 use lib.Dec.{eqb}
 use Rattle.choice.specs.Pick.{pick, and}
-<<<<<<< HEAD
-use Rattle.room.specs.Room.{over}
-=======
->>>>>>> hc
 use Rattle.crc.specs.Crc.{crcOf}
 use Rattle.lich.specs.declared.LichCollection.{LichCollection}
 use Rattle.lich.specs.Lich.{heardCount}

@@ -3,10 +3,6 @@ use Prim.Native.Nat.{ℕ, _+_}
 use mathlib.Core.List.{List}
 use lib.Dec.{eqb, ltb}
 use Rattle.choice.specs.Pick.{pick}
-<<<<<<< HEAD
-use Rattle.room.specs.Room.{copied}
-=======
->>>>>>> hc
 use Rattle.crc.specs.Crc.{crcOf}
 use Rattle.lich.specs.declared.LichCollection.{LichCollection}
 use Rattle.lich.specs.declared.Assembly.{Assembly}

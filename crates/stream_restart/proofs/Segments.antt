@@ -6,11 +6,11 @@ use native.Mathlib.Omega.{arith}
 use borrow.Author.Tests.{lt-leb, le-ltb}
 use lib.ListN.{length}
 use Rattle.choice.specs.Pick.{pick}
-use Rattle.store.specs.declared.Copied.{Copied}
-use Rattle.store.specs.Room.{over, copied}
-use Rattle.store.proofs.Places.{placed-length}
-use Rattle.store.proofs.Copies.{copied-in}
-use Rattle.store.proofs.Runs.{put-front}
+use Rattle.room.specs.declared.Copied.{Copied}
+use Rattle.room.specs.Room.{over, copied}
+use Rattle.room.proofs.Places.{placed-length}
+use Rattle.room.proofs.Copies.{copied-in}
+use Rattle.room.proofs.Runs.{put-front}
 use Rattle.protocol.specs.declared.StreamFrame.{StreamFrame}
 use Rattle.lich.specs.declared.LichCollection.{LichCollection}
 use Rattle.lich.specs.declared.SegmentSet.{SegmentSet}

@@ -1,7 +1,7 @@
 -- What `restart` does with any frame and store: by what its callees do. From no document: no promise rests on it. Assumes nothing.
 use Prim.Native.Nat.{ℕ}
 use mathlib.Core.List.{List}
-use Rattle.store.specs.Room.{copied}
+use Rattle.room.specs.Room.{copied}
 use Rattle.protocol.specs.declared.StreamFrame.{StreamFrame}
 use Rattle.lich.specs.declared.LichCollection.{LichCollection}
 use Rattle.lich.specs.Lich.{newCollection, segmentSet}

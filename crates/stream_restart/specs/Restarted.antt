@@ -1,7 +1,7 @@
 -- LICH acquisition begins: what the segment does that a stream frame brings, from document 01's "From the air" and "LSF, LICH, frames" and m17core's tnc.rs. Assumes nothing.
 use Prim.Native.Nat.{ℕ}
 use mathlib.Core.List.{List}
-use Rattle.store.specs.Room.{over}
+use Rattle.room.specs.Room.{over}
 use Rattle.protocol.specs.declared.StreamFrame.{StreamFrame}
 use Rattle.lich.specs.declared.LichCollection.{LichCollection}
 use Rattle.lich.specs.Lich.{newCollection, withSegment}
