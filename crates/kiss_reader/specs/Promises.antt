@@ -29,7 +29,7 @@ pub data AllAccepted : List Building → Type 0 where
   one-accepted : {b : Building} {bs : List Building} → Accepted b → AllAccepted bs → AllAccepted (b ∷ bs)
 
 -- any bytes, then built frames, neighbouring FENDs folded at will: first the frames of the earlier bytes and one FEND, then exactly the built frames, once each,
--- in order. Demand 3 in `kiss_buffer` says it of what a run of calls hands out
+-- in order. Demand 3 in `kiss_calls` says it of what a run of calls hands out
 abbrev pub BuiltFramesAreMeant : Type 0
 BuiltFramesAreMeant =
     (earlier : List ℕ) (b : Building) (bs : List Building) → AllAccepted (b ∷ bs)

@@ -1,4 +1,4 @@
-// Unescaping of a frame's content, as m17core's kiss.rs has it. What it gives is defined beside escaping, in `kiss_escape`.
+// Unescaping of a frame's content, as m17core's kiss.rs has it. What it gives is defined beside escaping, in `kiss_layout`.
 use blocks::load16;
 use blocks::none_of;
 use blocks::store16;
