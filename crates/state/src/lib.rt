@@ -45,15 +45,13 @@ impl State {
         ensures { λ r. ⌜ r ≡ transmits self ⌝ }
     {
         match self {
-            State::Idle => false,
-            State::RxAcquiringStream(_) => false,
-            State::RxStream(_) => false,
-            State::RxPacket(_) => false,
-            State::TxStream => true,
-            State::TxStreamSentEndOfStream => true,
-            State::TxPacket => true,
-            State::TxEnding => true,
-            State::TxEndingAtTime(_) => true,
+            State::Idle | State::RxAcquiringStream(_) | State::RxStream(_) | State::RxPacket(_) =>
+                false,
+            State::TxStream
+            | State::TxStreamSentEndOfStream
+            | State::TxPacket
+            | State::TxEnding
+            | State::TxEndingAtTime(_) => true,
         }
     }
 
@@ -61,15 +59,15 @@ impl State {
         ensures { λ r. ⌜ r ≡ receptionOf self ⌝ }
     {
         match self {
-            State::Idle => Reception::Nothing,
             State::RxAcquiringStream(mask) => Reception::Acquiring(mask),
             State::RxStream(expected) => Reception::Stream(expected),
             State::RxPacket(count) => Reception::Packet(count),
-            State::TxStream => Reception::Nothing,
-            State::TxStreamSentEndOfStream => Reception::Nothing,
-            State::TxPacket => Reception::Nothing,
-            State::TxEnding => Reception::Nothing,
-            State::TxEndingAtTime(_) => Reception::Nothing,
+            State::Idle
+            | State::TxStream
+            | State::TxStreamSentEndOfStream
+            | State::TxPacket
+            | State::TxEnding
+            | State::TxEndingAtTime(_) => Reception::Nothing,
         }
     }
 
@@ -77,15 +75,12 @@ impl State {
         ensures { λ r. ⌜ r ≡ transmissionOf self ⌝ }
     {
         match self {
-            State::Idle => Transmission::Receiving,
-            State::RxAcquiringStream(_) => Transmission::Receiving,
-            State::RxStream(_) => Transmission::Receiving,
-            State::RxPacket(_) => Transmission::Receiving,
+            State::Idle | State::RxAcquiringStream(_) | State::RxStream(_) | State::RxPacket(_) =>
+                Transmission::Receiving,
             State::TxStream => Transmission::Stream,
             State::TxStreamSentEndOfStream => Transmission::StreamSent,
             State::TxPacket => Transmission::Packet,
-            State::TxEnding => Transmission::Ending,
-            State::TxEndingAtTime(_) => Transmission::Ending,
+            State::TxEnding | State::TxEndingAtTime(_) => Transmission::Ending,
         }
     }
 
@@ -93,15 +88,15 @@ impl State {
         ensures { λ r. ⌜ r ≡ soundState self ⌝ }
     {
         match self {
-            State::Idle => true,
             State::RxAcquiringStream(mask) => mask < 64,
-            State::RxStream(_) => true,
             State::RxPacket(count) => count <= 32,
-            State::TxStream => true,
-            State::TxStreamSentEndOfStream => true,
-            State::TxPacket => true,
-            State::TxEnding => true,
             State::TxEndingAtTime(end) => end <= 4611686022722355200,
+            State::Idle
+            | State::RxStream(_)
+            | State::TxStream
+            | State::TxStreamSentEndOfStream
+            | State::TxPacket
+            | State::TxEnding => true,
         }
     }
 }
