@@ -87,25 +87,23 @@ impl LichCollection {
     pub fn try_assemble(self) -> Assembled
         ensures { λ r. ⌜ r ≡ assembled self ⌝ }
     {
-        let heard = self.valid_segments();
-        match heard {
-            ValidSegments::OutOfBounds => Assembled {
+        match self.valid_segments() {
+            ValidSegments::OutOfBounds => return Assembled {
                 answer: Assembly::OutOfBounds,
                 bytes: [0u8; 30],
             },
             ValidSegments::Count(n) => {
                 if n == 6 {
                     let bytes = self.segments;
-                    Assembled {
+                    return Assembled {
                         answer: Assembly::Whole,
                         bytes: bytes,
-                    }
-                } else {
-                    Assembled {
-                        answer: Assembly::Missing,
-                        bytes: [0u8; 30],
-                    }
+                    };
                 }
+                return Assembled {
+                    answer: Assembly::Missing,
+                    bytes: [0u8; 30],
+                };
             }
         }
     }

@@ -12,15 +12,15 @@ returns c = let v = c .before .before in by-count (v .before .args .self) NoCoun
 
 returns-2 : tie.Need-returns-2
 returns-2 c =
-    let h = c .before .before .before in let v = h .before .before in let e = by-count (v .before .args .self) _ (sym (h .heard .given .1) ∙ v .valid-segments .ensures) in
+    let h = c .before .before .before in let v = h .before .before in let e = by-count (v .before .args .self) _ (sym (h .n .given .1) ∙ v .valid-segments .ensures) in
     rw (← e) (search tests)
 
 returns-3 : tie.Need-returns-3
 returns-3 c =
-    let h = c .before .before in let v = h .before .before in let e = by-count (v .before .args .self) _ (sym (h .heard .given .1) ∙ v .valid-segments .ensures) in
+    let h = c .before .before in let v = h .before .before in let e = by-count (v .before .args .self) _ (sym (h .n .given .1) ∙ v .valid-segments .ensures) in
     rw (← e) (search tests)
 
 pub try-assemble-spec : {M : Type 1} → statement M
 try-assemble-spec =
     tie.close
-    (tie.spec (λ c κs. search needs) (λ c. search needs) (λ c. search needs) returns returns-2 returns-3)
+    (tie.spec (λ c κs. search needs) (λ c. search needs) returns (λ c. search needs) returns-2 returns-3)
