@@ -7,9 +7,9 @@ use protocol::LsfFrame;
 use protocol::Mode;
 ghost use mathlib.Core.Path.{_≡_};
 ghost use Prim.Native.Nat.{ℕ, _+_, _*_, _/_, _%_, _<_};
+ghost use Rattle.lsf_layout.specs.Bits.{modeBits, dataTypeBits, encryptionBits, channelBits};
 ghost use Rattle.lsf_layout.specs.Bytes.{typeField};
 ghost use Rattle.lsf_bytes.specs.Bytes.{retyped};
-ghost use Rattle.lsf_layout.specs.Bits.{modeBits, dataTypeBits, encryptionBits, channelBits};
 ghost use Rattle.protocol.specs.Kinds.{modeNumber, dataTypeNumber, encryptionNumber};
 ghost use Rattle.lsf_setters.specs.Lsf.{withField};
 
