@@ -1,7 +1,5 @@
 // An LSF's bytes: its type field, its meta field, and the bytes with another type and the CRC renewed.
 ghost use mathlib.Core.Path.{_≡_};
-ghost use lib.ListN.{take};
-ghost use Rattle.crc.specs.Crc.{sealed};
 ghost use Rattle.lsf_layout.specs.Bytes.{typeField};
 ghost use Rattle.lsf_bytes.specs.Bytes.{meta, retyped};
 
@@ -25,12 +23,6 @@ pub fn with_type(mut bytes: [u8; 30], bits: u16) -> [u8; 30]
 {
     bytes[12] = (bits / 256) as u8;
     bytes[13] = (bits % 256) as u8;
-    recalculate_crc(bytes)
-}
-
-fn recalculate_crc(mut bytes: [u8; 30]) -> [u8; 30]
-    ensures { λ r. ⌜ r ≡ sealed (take 28 bytes) ⌝ }
-{
     let crc = crc::m17_crc(&bytes[..28]);
     bytes[28] = (crc / 256) as u8;
     bytes[29] = (crc % 256) as u8;

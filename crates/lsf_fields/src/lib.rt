@@ -1,7 +1,4 @@
 // The fields of a link setup frame that only a host asks for, as m17core's protocol.rs reads them. The mode is read in `protocol`.
-use lsf_bits::channel_bits;
-use lsf_bits::data_type_bits;
-use lsf_bits::encryption_bits;
 use lsf_bytes::lsf_type;
 use protocol::DataType;
 use protocol::EncryptionType;
@@ -16,12 +13,12 @@ pub fn data_type(lsf: LsfFrame) -> DataType
     ensures { λ r. ⌜ r ≡ dataTypeOf (fieldOf dataTypeBits (lsf .0)) ⌝ }
 {
     let bytes = lsf.0;
-    let bits = data_type_bits(lsf_type(bytes));
+    let bits = lsf_type(bytes) / 2 % 4;
     match bits {
-        0 => DataType::Reserved,
-        1 => DataType::Data,
-        2 => DataType::Voice,
-        _ => DataType::VoiceAndData,
+        0 => return DataType::Reserved,
+        1 => return DataType::Data,
+        2 => return DataType::Voice,
+        _ => return DataType::VoiceAndData,
     }
 }
 
@@ -29,12 +26,12 @@ pub fn encryption_type(lsf: LsfFrame) -> EncryptionType
     ensures { λ r. ⌜ r ≡ encryptionOf (fieldOf encryptionBits (lsf .0)) ⌝ }
 {
     let bytes = lsf.0;
-    let bits = encryption_bits(lsf_type(bytes));
+    let bits = lsf_type(bytes) / 8 % 4;
     match bits {
-        0 => EncryptionType::None,
-        1 => EncryptionType::Scrambler,
-        2 => EncryptionType::Aes,
-        _ => EncryptionType::Other,
+        0 => return EncryptionType::None,
+        1 => return EncryptionType::Scrambler,
+        2 => return EncryptionType::Aes,
+        _ => return EncryptionType::Other,
     }
 }
 
@@ -42,7 +39,7 @@ pub fn channel_access_number(lsf: LsfFrame) -> u8
     ensures { λ r. ⌜ r ≡ fieldOf channelBits (lsf .0) ⌝ }
 {
     let bytes = lsf.0;
-    channel_bits(lsf_type(bytes))
+    (lsf_type(bytes) / 128 % 16) as u8
 }
 
 pub fn meta(lsf: LsfFrame) -> [u8; 14]

@@ -1,8 +1,8 @@
 -- Bytes of a frame after its type was set. Assumes nothing.
-use mathlib.Core.Path.{_≡_, ap, ap₂, _∙_}
+use mathlib.Core.Path.{_≡_, ap, _∙_}
 use mathlib.Core.List.{List, _∷_, _++_, append-assoc}
-use Prim.Native.Nat.{ℕ, _/_, _%_, _<_}
-use native.Mathlib.Nat.{div-add-mod', mod-eq-of-lt}
+use Prim.Native.Nat.{ℕ, _/_, _%_}
+use native.Mathlib.Nat.{div-add-mod'}
 use native.Mathlib.Omega.{arith}
 use lib.ListN.{length, take, drop, length-append, length-drop}
 use lib.Seq.{take-at, drop-at, drop-drop, getD-drop, length-take-le}
@@ -12,14 +12,10 @@ use Rattle.lsf_layout.specs.Bytes.{typeField}
 use Rattle.lsf_bytes.specs.Bytes.{meta, retyped}
 use Rattle.lsf_setters.specs.Lsf.{withField}
 
--- what a setter's code does: it works out the new type, and has it put in
-pub set-type : {g : List ℕ} (f : List ℕ) (k : Field) (v t : ℕ) → g ≡ retyped t f → t ≡ withBitsAt k v (typeField f) → g ≡ withField k v f
+-- what a setter's code does: it has the number n put into a run of the type's bits, where n is the v that its contract names
+pub set-bits : (f : List ℕ) (k : Field) (v n : ℕ) {g : List ℕ} → n ≡ v → g ≡ retyped (withBitsAt k n (typeField f)) f → g ≡ withField k v f
 unfolding withField
-set-type f k v t e h = e ∙ ap (λ (x : ℕ). retyped x f) h
-
--- the same where the code below takes the low bits of a number that is small
-pub set-bits : {g : List ℕ} (f : List ℕ) (k : Field) (v m : ℕ) {t u n : ℕ} → g ≡ retyped t f → t ≡ withBitsAt k (n % m) u → u ≡ typeField f → n ≡ v → v < m → g ≡ withField k v f
-set-bits f k v m {t} e a b c h = set-type f k v t e (a ∙ ap₂ (withBitsAt k) (ap (λ (x : ℕ). x % m) c ∙ mod-eq-of-lt h) b)
+set-bits f k v n e put = put ∙ ap (λ (x : ℕ). retyped (withBitsAt k x (typeField f)) f) e
 
 -- ---- a frame whose type was set
 

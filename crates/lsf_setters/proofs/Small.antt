@@ -1,5 +1,6 @@
--- The numbers of the kinds are small enough for their fields. Assumes nothing.
-use Prim.Native.Nat.{_<_}
+-- The numbers of the kinds: which an arm of a `match` took, and that they are small enough for their fields. Assumes nothing.
+use Prim.Native.Nat.{ℕ, _<_}
+use mathlib.Core.Path.{_≡_, sym, ap, _∙_}
 use lib.Dec.{lit<}
 use Rattle.protocol.specs.declared.lsf.Mode.{Mode}
 use Rattle.protocol.specs.declared.lsf.Mode.the-variants.{Packet, Stream}
@@ -8,6 +9,10 @@ use Rattle.protocol.specs.declared.lsf.DataType.the-variants.{Reserved, Data, V
 use Rattle.protocol.specs.declared.lsf.EncryptionType.{EncryptionType}
 use Rattle.protocol.specs.declared.lsf.EncryptionType.the-variants.{None, Scrambler, Aes, Other}
 use Rattle.protocol.specs.Kinds.{modeNumber, dataTypeNumber, encryptionNumber}
+
+-- an arm for the variant v, which took the number n
+pub arm : {A : Type 0} (number : A → ℕ) {k v : A} {n : ℕ} → k ≡ v → n ≡ number v → n ≡ number k
+arm number h e = e ∙ sym (ap number h)
 
 pub mode-lt : (m : Mode) → modeNumber m < 2
 mode-lt Packet = lit< tt

@@ -1,5 +1,5 @@
 -- `protocol::lsf::LsfFrame::mode` meets its contract. Assumes nothing.
-use mathlib.Core.Path.{_≡_}
+use mathlib.Core.Path.{_≡_, sym, ap, _∙_}
 use mathlib.Core.List.{List}
 use Prim.Native.Nat.{ℕ, _%_}
 use native.Mathlib.Omega.{arith}
@@ -18,7 +18,7 @@ bit f = omega arith
 
 returns : tie.Need-returns
 unfolding modeOf pick
-returns c = rw (← bit (c .before .before .args .self .0), c .match .keys1)
+returns c = ap modeOf (sym (c .match .keys1) ∙ bit (c .before .before .args .self .0))
 
 returns-2 : tie.Need-returns-2
 unfolding modeOf
