@@ -68,6 +68,5 @@ pub extern "C" fn iflazrud_reader_next(reader: Reader, store: &mut [u8]) -> Read
     };
     let next = kiss_buffer::next_frame(buffer, store);
     let answer = next.answer;
-    let after = next.buffer;
-    next_count(answer, after)
+    next_count(answer, next.buffer)
 }

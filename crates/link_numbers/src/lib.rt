@@ -35,11 +35,11 @@ pub fn escape_count(answer: Escaped) -> Counted
     ensures { λ r. ⌜ r ≡ escapeCount answer ⌝ }
 {
     match answer {
-        Escaped::Wrote(n) => Counted {
+        Escaped::Wrote(n) => return Counted {
             number: 0,
             count: n,
         },
-        Escaped::NoRoom => Counted {
+        Escaped::NoRoom => return Counted {
             number: 7,
             count: 0,
         },
@@ -50,23 +50,23 @@ pub fn build_count(answer: Built) -> Counted
     ensures { λ r. ⌜ r ≡ buildCount answer ⌝ }
 {
     match answer {
-        Built::Frame(n) => Counted {
+        Built::Frame(n) => return Counted {
             number: 0,
             count: n,
         },
-        Built::PayloadTooBig => Counted {
+        Built::PayloadTooBig => return Counted {
             number: 1,
             count: 0,
         },
-        Built::LsfWrongSize => Counted {
+        Built::LsfWrongSize => return Counted {
             number: 2,
             count: 0,
         },
-        Built::OutOfRange => Counted {
+        Built::OutOfRange => return Counted {
             number: 6,
             count: 0,
         },
-        Built::NoRoom => Counted {
+        Built::NoRoom => return Counted {
             number: 7,
             count: 0,
         },
@@ -76,27 +76,33 @@ pub fn build_count(answer: Built) -> Counted
 pub fn write_count(written: Written) -> ReaderAnswer
     ensures { λ r. ⌜ r ≡ record { number = writeNumber (written .answer); count = written .count; reader = kept (written .buffer) } ⌝ }
 {
+    let kept = Reader {
+        filled: written.buffer.filled,
+        taken: written.buffer.taken,
+    };
+    let count = written.count;
     let answer = written.answer;
-    let number = write_number(answer);
-    let after = written.buffer;
-    ReaderAnswer {
-        number: number,
-        count: written.count,
-        reader: Reader {
-            filled: after.filled,
-            taken: after.taken,
-        },
-    }
-}
-
-fn write_number(answer: WriteAnswer) -> u8
-    ensures { λ r. ⌜ r ≡ writeNumber answer ⌝ }
-{
     match answer {
-        WriteAnswer::Done => 0,
-        WriteAnswer::Full => 5,
-        WriteAnswer::WrongStore => 7,
-        WriteAnswer::OutOfBounds => 8,
+        WriteAnswer::Done => return ReaderAnswer {
+            number: 0,
+            count: count,
+            reader: kept,
+        },
+        WriteAnswer::Full => return ReaderAnswer {
+            number: 5,
+            count: count,
+            reader: kept,
+        },
+        WriteAnswer::WrongStore => return ReaderAnswer {
+            number: 7,
+            count: count,
+            reader: kept,
+        },
+        WriteAnswer::OutOfBounds => return ReaderAnswer {
+            number: 8,
+            count: count,
+            reader: kept,
+        },
     }
 }
 
@@ -108,22 +114,22 @@ pub fn next_count(answer: NextAnswer, after: KissBuffer) -> ReaderAnswer
         taken: after.taken,
     };
     match answer {
-        NextAnswer::Frame(n) => ReaderAnswer {
+        NextAnswer::Frame(n) => return ReaderAnswer {
             number: 0,
             count: n,
             reader: kept,
         },
-        NextAnswer::Nothing => ReaderAnswer {
+        NextAnswer::Nothing => return ReaderAnswer {
             number: 0,
             count: 0,
             reader: kept,
         },
-        NextAnswer::WrongStore => ReaderAnswer {
+        NextAnswer::WrongStore => return ReaderAnswer {
             number: 7,
             count: 0,
             reader: kept,
         },
-        NextAnswer::OutOfBounds => ReaderAnswer {
+        NextAnswer::OutOfBounds => return ReaderAnswer {
             number: 8,
             count: 0,
             reader: kept,

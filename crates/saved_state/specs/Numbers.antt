@@ -5,6 +5,8 @@ use lib.Dec.{leb, eqb}
 use Rattle.choice.specs.Pick.{pick, and}
 use Rattle.state.specs.declared.State.{State}
 use Rattle.state.specs.declared.State.the-variants.{Idle, RxAcquiringStream, RxStream, RxPacket, TxStream, TxStreamSentEndOfStream, TxPacket, TxEnding, TxEndingAtTime}
+use Rattle.saved_state.specs.declared.StateNumbers.{StateNumbers}
+use Rattle.saved_state.specs.declared.StateRead.{StateRead}
 
 abbrev pub stateKind : State → ℕ
 stateKind Idle = 0
@@ -28,6 +30,9 @@ stateValue TxPacket = 0
 stateValue TxEnding = 0
 stateValue (TxEndingAtTime end) = end
 
+abbrev pub stateNumbers : State → StateNumbers
+stateNumbers s = record { kind = stateKind s; value = stateValue s }
+
 -- a kind of nine, with a number that a state of that kind can have
 unfoldable pub validState : ℕ → ℕ → Bool
 validState kind value =
@@ -46,3 +51,6 @@ stateOf kind value =
     (pick (eqb kind 6) TxPacket
     (pick (eqb kind 7) TxEnding
     (pick (eqb kind 8) (TxEndingAtTime value) Idle)))))))
+
+abbrev pub stateRead : ℕ → ℕ → StateRead
+stateRead kind value = record { valid = validState kind value; state = stateOf kind value }

@@ -1,76 +1,94 @@
 // The TNC's state as two numbers, its kind and its value, for hosts that have no enums.
 use state::State;
 ghost use mathlib.Core.Path.{_≡_};
-ghost use lib.Dec.{leb, eqb};
-ghost use Rattle.choice.specs.Pick.{and};
-ghost use Rattle.saved_state.specs.Numbers.{stateKind, stateValue, validState, stateOf};
+ghost use Rattle.saved_state.specs.Numbers.{stateNumbers, stateRead};
 
-pub fn kind_of(state: State) -> u8
-    ensures { λ r. ⌜ r ≡ stateKind state ⌝ }
+// A state's kind, 0 to 8 in the order of `state::State`, and its number, 0 where it has none.
+pub struct StateNumbers {
+    pub kind: u8,
+    pub value: u64,
+}
+
+// The state that two numbers stand for, and whether they are a state's: the kind one of nine and the value one of that kind's.
+pub struct StateRead {
+    pub valid: bool,
+    pub state: State,
+}
+
+pub fn numbers_of(state: State) -> StateNumbers
+    ensures { λ r. ⌜ r ≡ stateNumbers state ⌝ }
 {
     match state {
-        State::Idle => 0,
-        State::RxAcquiringStream(_) => 1,
-        State::RxStream(_) => 2,
-        State::RxPacket(_) => 3,
-        State::TxStream => 4,
-        State::TxStreamSentEndOfStream => 5,
-        State::TxPacket => 6,
-        State::TxEnding => 7,
-        State::TxEndingAtTime(_) => 8,
+        State::Idle => return StateNumbers { kind: 0, value: 0 },
+        State::RxAcquiringStream(mask) => return StateNumbers {
+            kind: 1,
+            value: mask as u64,
+        },
+        State::RxStream(expected) => return StateNumbers {
+            kind: 2,
+            value: expected as u64,
+        },
+        State::RxPacket(count) => return StateNumbers {
+            kind: 3,
+            value: count as u64,
+        },
+        State::TxStream => return StateNumbers { kind: 4, value: 0 },
+        State::TxStreamSentEndOfStream => return StateNumbers { kind: 5, value: 0 },
+        State::TxPacket => return StateNumbers { kind: 6, value: 0 },
+        State::TxEnding => return StateNumbers { kind: 7, value: 0 },
+        State::TxEndingAtTime(end) => return StateNumbers {
+            kind: 8,
+            value: end,
+        },
     }
 }
 
-pub fn value_of(state: State) -> u64
-    ensures { λ r. ⌜ r ≡ stateValue state ⌝ }
-{
-    match state {
-        State::Idle => 0,
-        State::RxAcquiringStream(mask) => mask as u64,
-        State::RxStream(expected) => expected as u64,
-        State::RxPacket(count) => count as u64,
-        State::TxStream => 0,
-        State::TxStreamSentEndOfStream => 0,
-        State::TxPacket => 0,
-        State::TxEnding => 0,
-        State::TxEndingAtTime(end) => end,
-    }
-}
-
-// The state's kind is one of nine and its number one of that kind's.
-pub fn is_state(kind: u8, value: u64) -> bool
-    ensures { λ r. ⌜ r ≡ validState kind value ⌝ }
-{
-    match kind {
-        1 => value <= 255,
-        2 => value <= 65535,
-        3 => true,
-        8 => true,
-        _ => plain_state(kind, value),
-    }
-}
-
-fn plain_state(kind: u8, value: u64) -> bool
-    ensures { λ r. ⌜ r ≡ and (leb kind 8) (eqb value 0) ⌝ }
+pub fn state_of(kind: u8, value: u64) -> StateRead
+    ensures { λ r. ⌜ r ≡ stateRead kind value ⌝ }
 {
     if 8 < kind {
-        return false;
+        return StateRead {
+            valid: false,
+            state: State::Idle,
+        };
     }
-    value == 0
-}
-
-pub fn state_of(kind: u8, value: u64) -> State
-    ensures { λ r. ⌜ r ≡ stateOf kind value ⌝ }
-{
+    let plain = value == 0;
     match kind {
-        1 => State::RxAcquiringStream((value % 256) as u8),
-        2 => State::RxStream((value % 65536) as u16),
-        3 => State::RxPacket(value as usize),
-        4 => State::TxStream,
-        5 => State::TxStreamSentEndOfStream,
-        6 => State::TxPacket,
-        7 => State::TxEnding,
-        8 => State::TxEndingAtTime(value),
-        _ => State::Idle,
+        1 => return StateRead {
+            valid: value <= 255,
+            state: State::RxAcquiringStream((value % 256) as u8),
+        },
+        2 => return StateRead {
+            valid: value <= 65535,
+            state: State::RxStream((value % 65536) as u16),
+        },
+        3 => return StateRead {
+            valid: true,
+            state: State::RxPacket(value as usize),
+        },
+        4 => return StateRead {
+            valid: plain,
+            state: State::TxStream,
+        },
+        5 => return StateRead {
+            valid: plain,
+            state: State::TxStreamSentEndOfStream,
+        },
+        6 => return StateRead {
+            valid: plain,
+            state: State::TxPacket,
+        },
+        7 => return StateRead {
+            valid: plain,
+            state: State::TxEnding,
+        },
+        8 => return StateRead {
+            valid: true,
+            state: State::TxEndingAtTime(value),
+        },
+        _ => return StateRead {
+            valid: plain,
+            state: State::Idle,
+        },
     }
 }

@@ -1,10 +1,15 @@
 -- The TNC's record as a host in C or Rust keeps it, without enums, and an event applied to it, from document 01's "Event program" and "Bounds for 8". Assumes nothing.
 use Prim.Native.Nat.{ℕ}
-use mathlib.Core.Bool.{false}
+use mathlib.Core.Bool.{Bool, false}
 use mathlib.Core.List.{List}
 use Rattle.choice.specs.Pick.{pick}
 use Rattle.channel.specs.Access.{newChannel}
 use Rattle.tnc_core.specs.Tnc.{newTnc}
+use Rattle.channel.specs.declared.Channel.{Channel}
+use Rattle.kiss_calls.specs.declared.KissBuffer.{KissBuffer}
+use Rattle.outgoing.specs.declared.Outgoing.{Outgoing}
+use Rattle.sending.specs.declared.Sending.{Sending}
+use Rattle.state.specs.declared.State.{State}
 use Rattle.event_answer.specs.declared.EventBox.{EventBox}
 use Rattle.event_answer.specs.declared.Applied.{Applied}
 use Rattle.event_step.specs.Step.{Turn, applied, worldOf}
@@ -26,12 +31,12 @@ savedOf b =
       channel = b .channel;
     }
 
+abbrev pub boxOf : KissBuffer → Sending → State → Outgoing → Bool → Channel → EventBox
+boxOf buffer sending state outgoing ptt channel =
+    record { tnc = record { buffer = buffer; sending = sending; radio = record { state = state; outgoing = outgoing }; ptt = ptt }; channel = channel }
+
 abbrev pub restored : Saved → EventBox
-restored s =
-    record {
-      tnc = record { buffer = s .buffer; sending = s .sending; radio = record { state = stateOf (s .state) (s .value); outgoing = s .outgoing }; ptt = s .ptt };
-      channel = s .channel;
-    }
+restored s = boxOf (s .buffer) (s .sending) (stateOf (s .state) (s .value)) (s .outgoing) (s .ptt) (s .channel)
 
 abbrev pub newSaved : Saved
 newSaved = savedOf (record { tnc = newTnc; channel = newChannel })

@@ -5,14 +5,13 @@ use event_answer::EventBox;
 use kiss_calls::KissBuffer;
 use outgoing::Outgoing;
 use radio::Radio;
-use saved_state::is_state;
-use saved_state::kind_of;
+use saved_state::numbers_of;
 use saved_state::state_of;
-use saved_state::value_of;
 use sending::Sending;
+use state::State;
 use tnc_core::Tnc;
 ghost use mathlib.Core.Path.{_≡_};
-ghost use Rattle.tnc_link.specs.Saved.{newSaved, savedOf, restored, told, savedTurn, eventOn};
+ghost use Rattle.tnc_link.specs.Saved.{newSaved, savedOf, boxOf, told, savedTurn, eventOn};
 
 // The TNC and its channel. A state is its kind, 0 to 8 in the order of `state::State`, and its number, 0 where it has none.
 #[repr(C)]
@@ -39,10 +38,7 @@ pub struct EventAnswer {
 pub extern "C" fn iflazrud_tnc_new() -> Saved
     ensures { λ r. ⌜ r ≡ newSaved ⌝ }
 {
-    save(EventBox {
-        tnc: Tnc::new(),
-        channel: Channel::new(),
-    })
+    save(Tnc::new(), Channel::new())
 }
 
 // One event of document 01's event program: its kind and its body.
@@ -60,9 +56,8 @@ pub extern "C" fn iflazrud_tnc_event(
 ) -> EventAnswer
     ensures { λ r. ⌜ savedTurn r (now (reader .exit)) (now (packets .exit)) (now (streams .exit)) (now (rx .exit)) (now (message .exit)) (now (bytes .exit)) ≡ eventOn saved kind (now (body .entry)) (now (reader .entry)) (now (packets .entry)) (now (streams .entry)) (now (rx .entry)) (now (message .entry)) (now (bytes .entry)) ⌝ }
 {
-    let state = saved.state;
-    let value = saved.value;
-    if !is_state(state, value) {
+    let read = state_of(saved.state, saved.value);
+    if !read.valid {
         return EventAnswer {
             number: 8,
             count: 0,
@@ -70,8 +65,16 @@ pub extern "C" fn iflazrud_tnc_event(
             saved: saved,
         };
     }
+    let state = read.state;
     let applied = event_step::apply(
-        restore(saved),
+        restore(
+            saved.buffer,
+            saved.sending,
+            state,
+            saved.outgoing,
+            saved.ptt,
+            saved.channel,
+        ),
         kind,
         body,
         reader,
@@ -87,44 +90,44 @@ pub extern "C" fn iflazrud_tnc_event(
 fn tell(applied: Applied) -> EventAnswer
     ensures { λ r. ⌜ r ≡ told applied ⌝ }
 {
-    let after = applied.after;
     EventAnswer {
         number: applied.number,
         count: applied.count,
         ptt: applied.ptt,
-        saved: save(after),
+        saved: save(applied.after.tnc, applied.after.channel),
     }
 }
 
-fn save(before: EventBox) -> Saved
-    ensures { λ r. ⌜ r ≡ savedOf before ⌝ }
+fn save(tnc: Tnc, channel: Channel) -> Saved
+    ensures { λ r. ⌜ r ≡ savedOf (record { tnc = tnc; channel = channel }) ⌝ }
 {
-    let tnc = before.tnc;
-    let channel = before.channel;
     let buffer = tnc.buffer;
     let sending = tnc.sending;
     let radio = tnc.radio;
     let state = radio.state;
     let outgoing = radio.outgoing;
+    let numbers = numbers_of(state);
     Saved {
         buffer: buffer,
         sending: sending,
-        state: kind_of(state),
-        value: value_of(state),
+        state: numbers.kind,
+        value: numbers.value,
         outgoing: outgoing,
         ptt: tnc.ptt,
         channel: channel,
     }
 }
 
-fn restore(saved: Saved) -> EventBox
-    ensures { λ r. ⌜ r ≡ restored saved ⌝ }
+fn restore(
+    buffer: KissBuffer,
+    sending: Sending,
+    state: State,
+    outgoing: Outgoing,
+    ptt: bool,
+    channel: Channel,
+) -> EventBox
+    ensures { λ r. ⌜ r ≡ boxOf buffer sending state outgoing ptt channel ⌝ }
 {
-    let buffer = saved.buffer;
-    let sending = saved.sending;
-    let outgoing = saved.outgoing;
-    let channel = saved.channel;
-    let state = state_of(saved.state, saved.value);
     EventBox {
         tnc: Tnc {
             buffer: buffer,
@@ -133,7 +136,7 @@ fn restore(saved: Saved) -> EventBox
                 state: state,
                 outgoing: outgoing,
             },
-            ptt: saved.ptt,
+            ptt: ptt,
         },
         channel: channel,
     }

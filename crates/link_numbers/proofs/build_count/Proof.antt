@@ -21,4 +21,4 @@ returns-5 : tie.Need-returns-5
 returns-5 c = ap buildCount (sym (c .enum-told4 .given .1))
 
 pub build-count-spec : {M : Type 1} → statement M
-build-count-spec = tie.close (tie.spec (λ c. search needs) (λ c. search needs) (λ c. search needs) (λ c. search needs) (λ c. search needs) returns returns-2 returns-3 returns-4 returns-5)
+build-count-spec = tie.close (tie.spec (λ c. search needs) returns (λ c. search needs) returns-2 (λ c. search needs) returns-3 (λ c. search needs) returns-4 (λ c. search needs) returns-5)

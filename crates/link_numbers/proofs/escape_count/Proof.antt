@@ -12,4 +12,4 @@ returns-2 : tie.Need-returns-2
 returns-2 c = ap escapeCount (sym (c .enum-told .given .1))
 
 pub escape-count-spec : {M : Type 1} → statement M
-escape-count-spec = tie.close (tie.spec (λ c. search needs) (λ c. search needs) returns returns-2)
+escape-count-spec = tie.close (tie.spec (λ c. search needs) returns (λ c. search needs) returns-2)

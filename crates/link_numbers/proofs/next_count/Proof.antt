@@ -19,4 +19,4 @@ returns-4 : tie.Need-returns-4
 returns-4 c = let a = c .before .before .args in ap (λ (x : NextAnswer). nextCount x (a .after)) (sym (c .enum-told3 .given .1))
 
 pub next-count-spec : {M : Type 1} → statement M
-next-count-spec = tie.close (tie.spec (λ c. search needs) (λ c. search needs) (λ c. search needs) (λ c. search needs) returns returns-2 returns-3 returns-4)
+next-count-spec = tie.close (tie.spec (λ c. search needs) returns (λ c. search needs) returns-2 (λ c. search needs) returns-3 (λ c. search needs) returns-4)

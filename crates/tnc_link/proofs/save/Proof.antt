@@ -5,16 +5,16 @@ use Rattle.tnc_link.proofs.save.Tie as tie
 
 returns : tie.Need-returns
 returns c =
-    let b = c .before .before .before .before .before .before .before .before .args .before in
+    let a = c .before .before .before .before .before .args in
     λ i. record {
-      buffer = b .tnc .buffer;
-      sending = b .tnc .sending;
-      state = c .before .kind-of .ensures i;
-      value = c .value-of .ensures i;
-      outgoing = b .tnc .radio .outgoing;
-      ptt = b .tnc .ptt;
-      channel = b .channel;
+      buffer = a .tnc .buffer;
+      sending = a .tnc .sending;
+      state = c .numbers-of .ensures i .kind;
+      value = c .numbers-of .ensures i .value;
+      outgoing = a .tnc .radio .outgoing;
+      ptt = a .tnc .ptt;
+      channel = a .channel;
     }
 
 pub save-spec : {M : Type 1} → statement M
-save-spec = tie.close (tie.spec (λ c κs. search needs) (λ c κs. search needs) returns)
+save-spec = tie.close (tie.spec (λ c κs. search needs) returns)
