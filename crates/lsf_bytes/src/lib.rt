@@ -1,4 +1,5 @@
 // An LSF's bytes: its type field, its meta field, and the bytes with another type and the CRC renewed.
+use protocol::LsfFrame;
 ghost use mathlib.Core.Path.{_≡_};
 ghost use Rattle.lsf_layout.specs.Bytes.{typeField};
 ghost use Rattle.lsf_bytes.specs.Bytes.{meta, retyped};
@@ -9,9 +10,10 @@ pub fn lsf_type(bytes: [u8; 30]) -> u16
     (bytes[12] as u16) * 256 + (bytes[13] as u16)
 }
 
-pub fn meta(bytes: [u8; 30]) -> [u8; 14]
-    ensures { λ r. ⌜ r ≡ meta bytes ⌝ }
+pub fn meta(lsf: LsfFrame) -> [u8; 14]
+    ensures { λ r. ⌜ r ≡ meta (lsf .0) ⌝ }
 {
+    let bytes = lsf.0;
     let mut out = [0u8; 14];
     store::copy_in(&bytes[14..28], &mut out, 0);
     out

@@ -1,12 +1,12 @@
-// The fields of a link setup frame that only a host asks for, as m17core's protocol.rs reads them. The mode is read in `protocol`.
+// The fields of a link setup frame that only a host asks for, as m17core's protocol.rs reads them. The mode is read in `protocol`, the meta field in `lsf_bytes`.
 use lsf_bytes::lsf_type;
+pub use lsf_bytes::meta;
 use protocol::DataType;
 use protocol::EncryptionType;
 use protocol::LsfFrame;
 ghost use mathlib.Core.Path.{_≡_};
 ghost use Rattle.lsf_layout.specs.Bits.{dataTypeBits, encryptionBits, channelBits};
 ghost use Rattle.lsf_layout.specs.Lsf.{fieldOf};
-ghost use Rattle.lsf_bytes.specs.Bytes.{meta};
 ghost use Rattle.protocol.specs.Kinds.{dataTypeOf, encryptionOf};
 
 pub fn data_type(lsf: LsfFrame) -> DataType
@@ -40,11 +40,4 @@ pub fn channel_access_number(lsf: LsfFrame) -> u8
 {
     let bytes = lsf.0;
     (lsf_type(bytes) / 128 % 16) as u8
-}
-
-pub fn meta(lsf: LsfFrame) -> [u8; 14]
-    ensures { λ r. ⌜ r ≡ meta (lsf .0) ⌝ }
-{
-    let bytes = lsf.0;
-    lsf_bytes::meta(bytes)
 }

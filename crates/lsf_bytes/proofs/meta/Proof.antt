@@ -12,7 +12,7 @@ use Rattle.lsf_bytes.proofs.Stored.{stored-last}
 use Rattle.lsf_bytes.proofs.meta.Statement.{statement}
 use Rattle.lsf_bytes.proofs.meta.Tie as tie
 
-thirty : (c : tie.Start) → length (c .args .t1) ≡ 30
+thirty : (c : tie.After-bytes) → length (c .before .args .lsf .0) ≡ 30
 thirty c = search needs
 
 part-copy-in-end : tie.Need-part-copy-in-end
@@ -21,7 +21,7 @@ part-copy-in-end c = omega (arith, thirty (c .before))
 returns : tie.Need-returns
 unfolding meta
 returns c =
-    let s = c .before .before .before .before .before in let m = part 14 14 (s .args .t1) in let z : List ℕ = replicate 14 0 in
+    let s = c .before .before .before .before .before in let m = part 14 14 (s .before .args .lsf .0) in let z : List ℕ = replicate 14 0 in
     let n : length m ≡ 14 = simp (length-take, length-drop) (omega (arith, thirty s)) in
     copied-in m z 0 (c .before .copy-in .ensures) (omega arith) ∙ stored-last z m 0 (omega arith)
 

@@ -26,7 +26,7 @@ array-share-prefix-bytes : tie.Need-array-share-prefix-bytes
 array-share-prefix-bytes c = omega (arith, typed c)
 
 slice-aggregate-m17-crc : tie.Need-slice-aggregate-m17-crc
-slice-aggregate-m17-crc c = sym (length-take-le 28 (stored (c .before)) (omega (arith, typed (c .before))))
+slice-aggregate-m17-crc c = sym (length-take-le _ (stored (c .before)) (omega (arith, typed (c .before))))
 
 returns : tie.Need-returns
 unfolding retyped meta sealed
