@@ -105,7 +105,7 @@ fn fed(reader: KissBuffer, byte: u8, store: &mut [u8; 1713]) -> Answered {
     let offered = [byte];
     let written = kiss_buffer::write(reader, &offered, store);
     let before = written.buffer;
-    let next = kiss_buffer::next_frame(before, store);
+    let next = kiss_next::next_frame(before, store);
     let buffer = next.buffer;
     let answer = next.answer;
     match answer {

@@ -66,7 +66,7 @@ pub extern "C" fn iflazrud_reader_next(reader: Reader, store: &mut [u8]) -> Read
         filled: reader.filled,
         taken: reader.taken,
     };
-    let next = kiss_buffer::next_frame(buffer, store);
+    let next = kiss_next::next_frame(buffer, store);
     let answer = next.answer;
     next_count(answer, next.buffer)
 }

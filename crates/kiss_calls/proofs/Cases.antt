@@ -1,16 +1,16 @@
 -- What the definitions of the reader's calls come to, case by case, as the code meets the cases. Assumes nothing.
 use mathlib.Core.Path.{_≡_, refl, sym, ap, ap₂, _∙_}
 use mathlib.Core.Bool.{Bool, true, false}
-use mathlib.Core.Logic.{_⊎_, ⊎-elim}
 use mathlib.Core.Option.{Option, none, some, Option·map}
 use mathlib.Core.List.{List, [], _∷_, _++_}
 use Prim.Native.Nat.{ℕ, _+_, _-_, _≤_, _<_, min}
 use native.Mathlib.Omega.{arith}
 use mir.Val.{boolByte}
+use lib.Dec.{eqb}
 use lib.ListN.{length, take, drop, getD, length-append, length-drop, length-take, take-append-drop}
 use lib.Seq.{take-at, take-take, take-all, drop-append-add, drop-drop}
 use borrow.Author.Tests.{eq-eqb, ne-eqb, le-leb, lt-leb, leb-true, eqb-true}
-use Rattle.choice.specs.Pick.{pick, and, and-fst, and-snd}
+use Rattle.choice.specs.Pick.{pick, and, pick-yes, pick-no, and-fst, and-snd}
 use Rattle.room.specs.Room.{over}
 use Rattle.kiss_layout.specs.Escape.{FEND}
 use Rattle.kiss_layout.specs.Scan.{stretch}
@@ -21,7 +21,7 @@ use Rattle.kiss_reader.specs.Meaning.{enclosed}
 use Rattle.kiss_reader.specs.Reader.{Reader, STORE, settle, flush, front, isSome, next, afterNext, isFull, refused, keptBack, takes, afterWrite}
 use Rattle.kiss_calls.specs.Calls.{readerOf, soundBuffer, notWritten, writes, written, nextAnswer, notSought, found, nextFrame, frameIn}
 use Rattle.kiss_reader.specs.Front.{standsFirst, orEmpty}
-use Rattle.kiss_calls.specs.Inside.{compacted, accepted}
+use Rattle.kiss_calls.specs.Inside.{compacted, accepted, roomMade}
 use Rattle.kiss_reader.specs.Inside.{settleAt}
 use Rattle.kiss_reader.proofs.Indices.{settle-at, settle-settle}
 use Rattle.kiss_calls.proofs.Inner.{front-part, front-within}
@@ -58,6 +58,11 @@ sound-some b store e = by (b .taken) refl
     by true q = sound-taken b store e q
     by false q = omega arith
 
+-- what `is_sound` says of a store that has its length
+pub and-sound : {r : Bool} (b : KissBuffer) (store : List ℕ) → length store ≡ STORE → r ≡ and (eqb (length store) STORE) (soundBuffer b store) → soundBuffer b store ≡ r
+unfolding and
+and-sound b store l e = sym (e ∙ ap (λ (x : Bool). and x (soundBuffer b store)) (eq-eqb (length store) STORE l))
+
 -- ---- the tests that every call makes first
 
 module _ (b : KissBuffer) (offered store : List ℕ) where
@@ -85,14 +90,6 @@ module _ (b : KissBuffer) (store : List ℕ) where
   pub next-sound : length store ≡ STORE → soundBuffer b store ≡ true → found (readerOf b store) store ≡ nextFrame b store
   unfolding nextFrame pick
   next-sound l e = rw (eq-eqb (length store) STORE l, e)
-
-  pub frame-wrong : (length store ≡ STORE → ⊥) → [] ≡ frameIn b store
-  unfolding frameIn pick and
-  frame-wrong f = rw (ne-eqb (length store) STORE f)
-
-  pub frame-unsound : length store ≡ STORE → soundBuffer b store ≡ false → [] ≡ frameIn b store
-  unfolding frameIn pick and
-  frame-unsound l e = rw (eq-eqb (length store) STORE l, e)
 
   pub frame-untaken : length store ≡ STORE → soundBuffer b store ≡ true → b .taken ≡ false → [] ≡ frameIn b store
   unfolding frameIn pick and
@@ -123,13 +120,6 @@ module _ (from filled : ℕ) (store : List ℕ) where
   pub compacted-left : {n : ℕ} {d : List ℕ} → (n, d) ≡ compacted from filled store → d ≡ over heldFrom store
   unfolding compacted
   compacted-left e = ap (λ (p : ℕ × List ℕ). p .1) e
-
-  pub compacted-within : {n : ℕ} {d : List ℕ} → (n, d) ≡ compacted from filled store → n ≤ length d
-  compacted-within e =
-      omega (arith, compacted-count e, ap length (compacted-left e), length-append heldFrom (drop (length heldFrom) store))
-
-  pub compacted-held : {n : ℕ} {d : List ℕ} → (n, d) ≡ compacted from filled store → take n d ≡ heldFrom
-  compacted-held e = ap₂ take (compacted-count e) (compacted-left e) ∙ take-at heldFrom (drop (length heldFrom) store) (length heldFrom) refl
 
 -- ---- next_frame
 
@@ -276,39 +266,13 @@ module _ (b : KissBuffer) (offered store : List ℕ) (full : length store ≡ ST
       let z = full-quiet (readerOf b store) (y .0) (ap isSome (y .1) ∙ e) in
       kept-written [] (z .0) (z .1) (omega arith)
 
--- ---- what a write goes on with: what a taken frame leaves, or all that is held
+-- ---- what a write makes of the room
 
-abbrev pub Left : KissBuffer → List ℕ → ℕ → List ℕ → Type 0
-Left b store n d =
-    (length d ≡ STORE)
-    × (((b .taken ≡ true) × ((n, d) ≡ compacted 1 (b .filled) store)) ⊎ ((b .taken ≡ false) × (d ≡ store) × (n ≡ b .filled)))
+module _ (b : KissBuffer) (offered store : List ℕ) where
+  pub made-full : {n : ℕ} → n ≡ STORE → notWritten Full b store ≡ roomMade b n offered store
+  unfolding roomMade
+  made-full {n} e = pick-yes _ (eq-eqb n STORE e) refl
 
-module _ (b : KissBuffer) (offered store : List ℕ) (full : length store ≡ STORE) (sound : soundBuffer b store ≡ true) (n : ℕ) (d : List ℕ) (left : Left b store n d) where
-  pub left-within : n ≤ STORE
-  left-within =
-      ⊎-elim (λ w. omega (arith, compacted-within 1 (b .filled) store (w .1), left .0)) (λ w. omega (arith, w .2, sound-filled b store sound)) (left .1)
-
-  -- a store that is full still held no taken frame
-  still-full : n ≡ STORE → (b .taken ≡ false) × (d ≡ store) × (n ≡ b .filled)
-  still-full q = ⊎-elim (λ w. absurd (omega (arith, taken-short b offered store full sound (w .1), q))) (λ w. w) (left .1)
-
-  pub left-written : (n ≡ STORE → ⊥) → accepted n offered d ≡ written b offered store
-  left-written f =
-      ⊎-elim
-      (λ w. written-taken b offered store full sound (w .0) (w .1))
-      (λ w.
-      ap₂ (λ (m : ℕ) (x : List ℕ). accepted m offered x) (w .2) (w .1)
-      ∙ written-roomy b offered store full sound (w .0) (omega (arith, f, w .2, sound-filled b store sound)))
-      (left .1)
-
-  pub left-full : n ≡ STORE → isSome (front (settle d)) ≡ true → notWritten Full b d ≡ written b offered store
-  left-full q e =
-      let w = still-full q in
-      ap (notWritten Full b) (w .1)
-      ∙ written-full b offered store full sound (w .0) (omega (arith, w .2, q)) (ap (λ (x : List ℕ). isSome (front (settle x))) (sym (w .1)) ∙ e)
-
-  pub left-afresh : n ≡ STORE → isSome (front (settle d)) ≡ false → accepted 0 offered d ≡ written b offered store
-  left-afresh q e =
-      let w = still-full q in
-      ap (accepted 0 offered) (w .1)
-      ∙ written-afresh b offered store full sound (w .0) (omega (arith, w .2, q)) (ap (λ (x : List ℕ). isSome (front (settle x))) (sym (w .1)) ∙ e)
+  pub made-room : {n : ℕ} → (n ≡ STORE → ⊥) → accepted n offered store ≡ roomMade b n offered store
+  unfolding roomMade
+  made-room {n} f = pick-no _ (ne-eqb n STORE f) refl

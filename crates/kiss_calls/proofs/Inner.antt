@@ -9,7 +9,9 @@ use lib.Dec.{ltb}
 use lib.ListN.{length, take, drop, getD, length-append, length-drop, length-take}
 use lib.Seq.{sets, sets-eq, take-nil, drop-drop}
 use borrow.Author.Tests.{ltb-true, ltb-false}
-use Rattle.room.specs.Room.{over}
+use Rattle.room.specs.declared.Copied.{Copied}
+use Rattle.room.specs.Room.{over, shifted}
+use Rattle.room.proofs.Copies.{shifted-in}
 use Rattle.kiss_layout.specs.Escape.{FEND}
 use Rattle.kiss_layout.specs.Scan.{notFend, runOf}
 use Rattle.kiss_reader.specs.Reader.{settle, front}
@@ -17,6 +19,7 @@ use Rattle.kiss_reader.specs.Inside.{settleAt}
 use Rattle.kiss_reader.proofs.Indices.{settle-at, settle-within, front-found, front-none}
 use Rattle.kiss_reader.specs.Front.{orEmpty}
 use Rattle.kiss_reader.proofs.Fronts.{front-length-found, front-length-none}
+use Rattle.kiss_calls.specs.Inside.{compacted}
 
 -- ---- compact
 
@@ -43,6 +46,18 @@ settled-part from filled n store h k e =
 pub settled-within : (from filled n : ℕ) (store : List ℕ) → from ≤ filled → filled ≤ length store → n ≡ settleAt (take (filled - from) (drop from store)) → from + n ≤ filled
 settled-within from filled n store h k e =
     omega (arith, settle-within (take (filled - from) (drop from store)), length-take (filled - from) (drop from store), length-drop from store)
+
+-- what `shift` leaves of them, and how many they are
+pub compacted-by : (from filled n : ℕ) (store : List ℕ) {r : Copied} {d : List ℕ} → from ≤ filled → filled ≤ length store
+    → n ≡ settleAt (take (filled - from) (drop from store)) → (r, d) ≡ shifted store (from + n) filled → (filled - (from + n), d) ≡ compacted from filled store
+unfolding compacted
+compacted-by from filled n store h k e q =
+    let w = settled-within from filled n store h k e in
+    let p = settled-part from filled n store h k e in
+    let m : filled - (from + n) ≡ length (settle (drop from (take filled store))) =
+    omega (arith, ap length p, length-take (filled - (from + n)) (drop (from + n) store), length-drop (from + n) store, w, k) in
+    let o = shifted-in store (from + n) filled q w k ∙ ap (λ (l : List ℕ). over l store) p in
+    λ t. (m t, o t)
 
 -- ---- accept
 

@@ -1,5 +1,5 @@
 // The reader's record and what its calls answer. specs/ says what each call does to record and store, and what is promised over any run of calls; the calls are in
-// `kiss_buffer`.
+// `kiss_buffer`, `kiss_next` and `kiss_sound`.
 ghost use mathlib.Core.Path.{_≡_};
 ghost use Rattle.kiss_reader.specs.Reader.{newReader};
 ghost use Rattle.kiss_calls.specs.Calls.{bufferOf};

@@ -22,15 +22,12 @@ pub fn escape(src: &[u8], dst: &mut [u8]) -> Escaped
     ensures { λ r. ⌜ (r, now (dst .exit)) ≡ escaped (now (src .entry)) (now (dst .entry)) ⌝ }
 {
     // twice its bytes is room enough for whatever src is, so nothing is counted
-    if src.len() <= dst.len() / 2 {
-        let n = put_escaped(src, dst);
-        return Escaped::Wrote(n);
+    if dst.len() / 2 < src.len() {
+        if dst.len() < escaped_len(src) {
+            return Escaped::NoRoom;
+        }
     }
-    let n = escaped_len(src);
-    if dst.len() < n {
-        return Escaped::NoRoom;
-    }
-    put_escaped(src, dst);
+    let n = put_escaped(src, dst);
     Escaped::Wrote(n)
 }
 

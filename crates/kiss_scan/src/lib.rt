@@ -1,12 +1,11 @@
-// The reader's scans, each over the bytes that count of its store: where they settle, and whether a whole frame stands first.
+// The reader's scans, each over the bytes that count of its store: where they settle, and whether a whole frame stands there.
 use kiss_fend::leading_fends;
 use kiss_fend::to_fend;
-use kiss_layout::FEND;
 ghost use mathlib.Core.Path.{_≡_};
 ghost use lib.ListN.{length};
 ghost use Rattle.kiss_reader.specs.Reader.{settle, front, isSome};
 ghost use Rattle.kiss_reader.specs.Inside.{settleAt};
-ghost use Rattle.kiss_reader.specs.Front.{standsFirst, orEmpty};
+ghost use Rattle.kiss_reader.specs.Front.{orEmpty};
 
 // Where the last FEND of the first run of FENDs stands; the length where there is no FEND.
 pub fn settle_at(h: &[u8]) -> usize
@@ -39,19 +38,4 @@ pub fn holds_frame(h: &[u8]) -> bool
 {
     let at = settle_at(h);
     front_len(&h[at..]) != 0
-}
-
-pub fn stands_first(h: &[u8]) -> bool
-    ensures { λ r. ⌜ r ≡ standsFirst (now (h .entry)) ⌝ }
-{
-    if h.len() < 2 {
-        return false;
-    }
-    if h[0] != FEND {
-        return false;
-    }
-    if h[1] == FEND {
-        return false;
-    }
-    to_fend(&h[2..]) < h.len() - 2
 }

@@ -15,13 +15,7 @@ pub struct StreamContent {
 pub fn checked_content(frame: StreamFrame) -> StreamContent
     ensures { λ r. ⌜ r ≡ checkedContent frame ⌝ }
 {
-    if 5 < frame.lich_idx {
-        return StreamContent {
-            valid: false,
-            bytes: [0u8; 26],
-        };
-    }
-    if 32767 < frame.frame_number {
+    if (5 < frame.lich_idx) | (32767 < frame.frame_number) {
         return StreamContent {
             valid: false,
             bytes: [0u8; 26],

@@ -432,7 +432,7 @@ fn offer(s: Session, a: &[u8], store: &mut [u8; 1713]) -> Session {
 
 fn take(s: Session, room: &mut [u8], store: &mut [u8; 1713]) -> Session {
     let reader = s.reader;
-    let next = kiss_buffer::next_frame(reader, store);
+    let next = kiss_next::next_frame(reader, store);
     let answer = next.answer;
     let after = next.buffer;
     put_frame(after, store, room);
@@ -440,7 +440,7 @@ fn take(s: Session, room: &mut [u8], store: &mut [u8; 1713]) -> Session {
 }
 
 fn put_frame(reader: KissBuffer, store: &[u8], room: &mut [u8]) {
-    put(kiss_buffer::frame(reader, store), room);
+    put(kiss_sound::frame(reader, store), room);
 }
 
 fn show(s: Session, room: &mut [u8], store: &[u8]) -> Session {

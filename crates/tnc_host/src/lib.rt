@@ -66,7 +66,7 @@ fn take_frames(
     let mut held = buffer;
     let mut obeyed = host;
     loop {
-        let next = kiss_buffer::next_frame(held, reader);
+        let next = kiss_next::next_frame(held, reader);
         held = next.buffer;
         if !held.taken {
             break Drained {
@@ -74,7 +74,7 @@ fn take_frames(
                 host: obeyed,
             };
         }
-        let frame = kiss_buffer::frame(held, reader);
+        let frame = kiss_sound::frame(held, reader);
         let taken = host_frame::take_frame(obeyed, frame, packets, streams);
         obeyed = taken.host;
     }
