@@ -19,7 +19,10 @@ fn main() {
     let mut message = [0u8; 1713];
     let mut bytes = [0u8; 255];
     let mut session = Session {
-        station: new_box(),
+        station: EventBox {
+            tnc: Tnc::new(),
+            channel: Channel::new(),
+        },
         from: 0,
         held: 0,
         going: true,
@@ -42,15 +45,6 @@ fn main() {
         if !session.going {
             return;
         }
-    }
-}
-
-fn new_box() -> EventBox {
-    let tnc = Tnc::new();
-    let channel = Channel::new();
-    EventBox {
-        tnc: tnc,
-        channel: channel,
     }
 }
 
