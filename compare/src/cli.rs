@@ -294,7 +294,7 @@ fn compare_events(o: &Options) -> u64 {
     t.wrong
 }
 
-// The Rust's answers to a short list of requests and events, as the files stdin and stdout of the programs that replay them.
+// The Rust's answers to a short list of requests and events, outside the domain document 01's, as the files stdin and stdout of our programs.
 fn record(folder: &str, seed: u64) {
     let write = |name: &str, bytes: &[u8]| {
         let path = format!("{folder}/{name}");
@@ -313,6 +313,6 @@ fn record(folder: &str, seed: u64) {
         "the recorded stream leaves the domain"
     );
     let text: String = tour.lines.iter().map(|l| format!("{l}\n")).collect();
-    write("replay/stdin", &tour.bytes);
-    write("replay/stdout", text.as_bytes());
+    write("event_program/stdin", &tour.bytes);
+    write("event_program/stdout", text.as_bytes());
 }

@@ -1,6 +1,8 @@
 // Event streams. The generator runs the Rust as it goes and looks at its state, so that it can steer: most streams are kept away from every row at which the domain
 // ends, the others are let into one or two of them.
-use crate::events::{leaves, step, Ended, Outcome, Row, LIMIT, ROWS};
+use crate::address::{Address, Callsign};
+use crate::crc::m17_crc;
+use crate::events::{leaves, line, step, Ended, Outcome, Row, LIMIT, ROWS};
 use crate::functions::{any_lsf, order, stream_body, stream_frame};
 use crate::kiss::KissFrame;
 use crate::protocol::{LsfFrame, Mode};
@@ -134,6 +136,13 @@ impl<'a> Maker<'a> {
             },
             _ => (),
         }
+    }
+
+    // An event that the Rust is not told, with the line that it has to have.
+    fn past(&mut self, event: &[u8], number: u8, ptt: bool, bytes: &[u8]) {
+        self.out.starts.push(self.out.bytes.len());
+        self.out.bytes.extend(event);
+        self.out.lines.push(line(event[0], number, ptt, bytes));
     }
 
     fn byte(&mut self, b: u8) {
@@ -685,7 +694,7 @@ impl<'a> Maker<'a> {
             if self.over() {
                 self.out.after += 1;
             } else {
-                self.out.lines.push(crate::events::line(event[0], 9, self.tnc.ptt(), &[]));
+                self.out.lines.push(line(event[0], 9, self.tnc.ptt(), &[]));
             }
         }
         self.out
@@ -746,10 +755,7 @@ pub fn fixed(rng: &mut Rng, reached: &mut Reached) -> Vec<Stream> {
         for n in lengths {
             for dense in [false, true] {
                 let mut m = Maker::new(rng, reached, all);
-                let lsf = m.frame(
-                    0x20,
-                    &LsfFrame::new_voice(&crate::address::Address::Broadcast, &crate::address::Address::Invalid).0,
-                );
+                let lsf = m.frame(0x20, &LsfFrame::new_voice(&Address::Broadcast, &Address::Invalid).0);
                 m.host_now(&lsf);
                 let mut content = m.rng.bytes(n, if dense { 1 } else { 0 });
                 if header != 0 && n >= 30 {
@@ -909,7 +915,7 @@ pub fn fixed(rng: &mut Rng, reached: &mut Reached) -> Vec<Stream> {
     out
 }
 
-// One stream inside the domain that meets each rule of the TNC, for the record.
+// One stream that meets each rule of the TNC inside the domain, and what is refused behind it, for the record.
 pub fn tour(rng: &mut Rng, reached: &mut Reached) -> Stream {
     let mut m = Maker::new(rng, reached, [true; ROWS.len()]);
     let mut lsf = LsfFrame([0x5A; 30]);
@@ -1115,10 +1121,56 @@ pub fn tour(rng: &mut Rng, reached: &mut Reached) -> Stream {
     let t = m.tnc.clock();
     m.clock(t);
     m.read();
-    // A kind that is not known ends the stream.
-    m.out.starts.push(m.out.bytes.len());
-    m.out.bytes.extend([10, 8]);
-    let line = crate::events::line(10, 9, m.tnc.ptt(), &[]);
-    m.out.lines.push(line);
+    past_the_domain(&mut m);
     m.out
+}
+
+// What follows in the record: the Rust is not told, and each line is document 01's.
+fn past_the_domain(m: &mut Maker) {
+    // The packet queue is full, which the Rust never sends. What is heard meanwhile is ignored.
+    let now = m.tnc.clock();
+    let lsf = LsfFrame::new_packet(&Address::Callsign(Callsign(*b"M17RT-PKT")), &Address::Broadcast);
+    m.past(&[&[5][..], &[0; 30]].concat(), 0, true, &[]);
+    for b in 0x50..0x54 {
+        let mut frame = [0; 26];
+        frame[1] = b;
+        frame[2..4].copy_from_slice(&m17_crc(&[0, b]).to_be_bytes());
+        frame[25] = 128 + 4;
+        m.past(&[8], 2, true, &lsf.0);
+        m.past(&[8], 4, true, &frame);
+    }
+    m.past(&[8], 5, true, &[]);
+    m.past(&[8], 0, true, &[]);
+    m.past(&[4, 0, 0, 0, 0], 0, true, &[]);
+    m.past(&[8], 0, true, &[]);
+
+    // PTT is off. What is answered 6, beside the nearest that is taken.
+    let clock = |t: u64| [&[3][..], &t.to_be_bytes()].concat();
+    let stream = |index: u8, number: [u8; 2], end: u8| [&[7, index, 0, 0, 0, 0, 0][..], &number, &[end], &[0; 16]].concat();
+    let packet = |counter: u8| [&[6][..], &[0; 25], &[counter]].concat();
+    for (event, number) in [
+        (clock(now + 8), 0),
+        (vec![8], 0),
+        (vec![9, 5], 0),
+        (vec![2, 1], 0),
+        (vec![2, 0], 0),
+        (clock(1), 0),
+        (clock(LIMIT + 1), 6),
+        (clock(LIMIT), 0),
+        (clock(0), 0),
+        (vec![4, 0xFF, 0xFF, 0xFF, 0xFF], 0),
+        (vec![8], 0),
+        (vec![9, 0xFF], 0),
+        (stream(6, [0, 0], 0), 6),
+        (stream(0, [0x80, 0], 0), 6),
+        (stream(0, [0x7F, 0xFF], 2), 0),
+        (packet(128 + 26), 6),
+        (packet(128 + 25), 0),
+        (packet(127), 0),
+        ([&[5][..], &[0; 30]].concat(), 0),
+        // A body that is cut ends the stream.
+        (vec![3, 0, 0, 0, 0, 0, 0, 0], 9),
+    ] {
+        m.past(&event, number, false, &[]);
+    }
 }

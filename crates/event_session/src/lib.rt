@@ -3,8 +3,12 @@ use event_answer::EventBox;
 use event_input::Next;
 use libc::STDIN_FILENO;
 use libc::STDOUT_FILENO;
-ghost use Prim.Native.Nat.{_≤_};
-ghost use lib.ListN.{length};
+ghost use Prim.Native.Nat.{ℕ, _≤_};
+ghost use mathlib.Core.Bool.{false};
+ghost use mathlib.Core.Path.{_≡_};
+ghost use lib.ListN.{length, take};
+ghost use Rattle.event_input.specs.declared.Next.the-variants.{Unknown};
+ghost use Rattle.event_input.specs.Events.{nextAt};
 
 // The bytes of the input that are held and not used stand from index from up to index held.
 pub struct Session {
@@ -15,7 +19,7 @@ pub struct Session {
 }
 
 // A block used some bytes, and the rest of what is held begins at index at. Where it used some, the next block goes on there; where no event stood whole, more input is read,
-// or the end is told. Indexes that do not stand in the input end the run.
+// or the end is told. A kind that is not known ends the run, and so do indexes that do not stand in the input.
 pub fn follow(
     station: EventBox,
     input: &mut [u8; 65536],
@@ -24,6 +28,7 @@ pub fn follow(
     held: usize,
 ) -> Session
     ensures { λ r. ⌜ (r .from ≤ r .held) × (r .held ≤ 65536) ⌝ }
+    ensures { λ r. ⌜ ((k : ℕ) → used ≡ 0 → nextAt (take held (now (input .entry))) at ≡ Unknown k → r .going ≡ false) ⌝ }
 {
     let stopped = Session {
         station: station,
@@ -46,13 +51,10 @@ pub fn follow(
         };
     }
     let left: &[u8] = input;
-    if let Next::Unknown(_) = event_input::next_event(&left[..held], at) {
-        finish(station, &left[at..held]);
-        return stopped;
-    }
+    let next = event_input::next_event(&left[..held], at);
     store::shift(input, at, held);
     let kept = held - at;
-    let more = fill(input, kept);
+    let more = fill(input, kept, next);
     if more == kept {
         let rest: &[u8] = input;
         finish(station, &rest[..kept]);
@@ -66,11 +68,15 @@ pub fn follow(
     }
 }
 
-// Reads once behind the bytes that are held, and answers how many are held then.
-fn fill(input: &mut [u8], held: usize) -> usize
+// Reads once behind the bytes that are held, and answers how many are held then. Behind a kind that is not known nothing is read.
+fn fill(input: &mut [u8], held: usize, next: Next) -> usize
     requires { ⌜ held ≤ length (now input) ⌝ }
     ensures { λ r. ⌜ (held ≤ r) × (r ≤ length (now (input .entry))) ⌝ }
+    ensures { λ r. ⌜ ((k : ℕ) → next ≡ Unknown k → r ≡ held) ⌝ }
 {
+    if let Next::Unknown(_) = next {
+        return held;
+    }
     let room = &mut input[held..];
     let got = libc::read(STDIN_FILENO, room);
     let count = io::count(got, room);

@@ -1,10 +1,10 @@
--- `event_run::turn` meets its contract. Assumes nothing.
+-- `event_program::turn` meets its contract. Assumes nothing.
 use mathlib.Core.Path.{sym}
 use native.Mathlib.Omega.{arith}
 use borrow.Author.Needs.{needs}
 use lib.Seq.{length-take-le}
-use Rattle.event_run.proofs.turn.Statement.{statement}
-use Rattle.event_run.proofs.turn.Tie as tie
+use Rattle.event_program.proofs.turn.Statement.{statement}
+use Rattle.event_program.proofs.turn.Tie as tie
 
 slice-aggregate-write-all : tie.Need-slice-aggregate-write-all
 slice-aggregate-write-all c = sym (length-take-le _ _ (omega (arith, c .before .before .before .before .run-block .ensures .1, c .before .before .before .before .run-block .kept .1 .1 .0)))
