@@ -2,7 +2,7 @@
 use channel::Channel;
 use sending::Sending;
 ghost use mathlib.Core.Path.{_≡_};
-ghost use Rattle.host_record.specs.Host.{newHost, soundHost, storesFit};
+ghost use Rattle.host_record.specs.Host.{soundHost, storesFit};
 
 pub const PACKET_STORE_LEN: usize = 3420;
 
@@ -15,17 +15,6 @@ pub struct Host {
 }
 
 impl Host {
-    pub fn new() -> Self
-        ensures { λ r. ⌜ r ≡ newHost ⌝ }
-    {
-        let sending = Sending::new();
-        let channel = Channel::new();
-        Host {
-            sending: sending,
-            channel: channel,
-        }
-    }
-
     pub fn is_sound(self) -> bool
         ensures { λ r. ⌜ r ≡ soundHost self ⌝ }
     {

@@ -3,7 +3,7 @@
 use protocol::LsfFrame;
 use protocol::PacketFrame;
 ghost use mathlib.Core.Path.{_≡_};
-ghost use Rattle.packets.specs.Queue.{newQueue, soundQueue, isEmpty};
+ghost use Rattle.packets.specs.Queue.{soundQueue, isEmpty};
 
 // The bytes of a packet's data, type and CRC among them.
 pub const MAX_DATA_LEN: usize = 825;
@@ -63,21 +63,6 @@ pub struct PacketRead {
 }
 
 impl PacketQueue {
-    pub fn new() -> Self
-        ensures { λ r. ⌜ r ≡ newQueue ⌝ }
-    {
-        PacketQueue {
-            places: [Place {
-                due: false,
-                len: 0,
-                sent: 0,
-            }; 4],
-            next: 0,
-            curr: 0,
-            full: false,
-        }
-    }
-
     // Within document 01's bounds.
     pub fn is_sound(self) -> bool
         ensures { λ r. ⌜ r ≡ soundQueue self ⌝ }

@@ -2,7 +2,7 @@
 use packets::PacketQueue;
 use streams::StreamQueue;
 ghost use mathlib.Core.Path.{_≡_};
-ghost use Rattle.sending.specs.Sending.{newSending, soundSending, wantsToSend};
+ghost use Rattle.sending.specs.Sending.{soundSending, wantsToSend};
 
 #[repr(C)]
 pub struct Sending {
@@ -13,18 +13,6 @@ pub struct Sending {
 }
 
 impl Sending {
-    pub fn new() -> Self
-        ensures { λ r. ⌜ r ≡ newSending ⌝ }
-    {
-        let packets = PacketQueue::new();
-        let streams = StreamQueue::new();
-        Sending {
-            packets: packets,
-            streams: streams,
-            tx_delay: 0,
-        }
-    }
-
     pub fn is_sound(self) -> bool
         ensures { λ r. ⌜ r ≡ soundSending self ⌝ }
     {

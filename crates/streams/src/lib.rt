@@ -4,7 +4,7 @@
 use protocol::LsfFrame;
 use protocol::StreamFrame;
 ghost use mathlib.Core.Path.{_≡_};
-ghost use Rattle.streams.specs.Queue.{newQueue, soundQueue, emptyQueue};
+ghost use Rattle.streams.specs.Queue.{soundQueue, emptyQueue};
 
 pub const STREAM_STORE_LEN: usize = 230;
 
@@ -57,17 +57,6 @@ pub struct StreamRead {
 }
 
 impl StreamQueue {
-    pub fn new() -> Self
-        ensures { λ r. ⌜ r ≡ newQueue ⌝ }
-    {
-        StreamQueue {
-            next: 0,
-            curr: 0,
-            full: false,
-            pending: false,
-        }
-    }
-
     // Places below 8, and a full flag only with equal places.
     pub fn is_sound(self) -> bool
         ensures { λ r. ⌜ r ≡ soundQueue self ⌝ }

@@ -1,7 +1,7 @@
 -- A sound TNC, part by part. Assumes nothing.
 use Prim.Native.Nat.{_≤_}
-use mathlib.Core.Bool.{Bool, true, false, not, false≢true}
-use mathlib.Core.Path.{_≡_, refl, sym}
+use mathlib.Core.Bool.{Bool, Bool·beq, true, false, not, false≢true}
+use mathlib.Core.Path.{_≡_, refl, sym, ap}
 use borrow.Author.Tests.{le-leb, leb-true}
 use Rattle.choice.specs.Pick.{pick, and-fst, and-snd, and-both}
 use Rattle.kiss_reader.specs.Reader.{STORE as READER}
@@ -29,6 +29,14 @@ unfolding pick
 as-on true b e = e
 as-on false true e = absurd (false≢true (sym e))
 as-on false false e = refl
+
+-- the same test as one comparison
+pub same-flags : {a r : Bool} (b : Bool) → r ≡ a → Bool·beq b r ≡ pick a b (not b)
+unfolding pick
+same-flags {a = true} true e = ap (Bool·beq true) e
+same-flags {a = true} false e = ap (Bool·beq false) e
+same-flags {a = false} true e = ap (Bool·beq true) e
+same-flags {a = false} false e = ap (Bool·beq false) e
 
 pub parts : (t : Tnc) → soundTnc t ≡ true → Parts t
 unfolding soundTnc

@@ -2,9 +2,12 @@
 use kiss_calls::KissBuffer;
 use kiss_calls::MAX_FRAME_LEN;
 use outgoing::Outgoing;
+use packets::PacketQueue;
+use packets::Place;
 use radio::Radio;
 use sending::Sending;
 use state::State;
+use streams::StreamQueue;
 ghost use mathlib.Core.Path.{_≡_};
 ghost use Rattle.tnc_core.specs.Tnc.{newTnc, soundTnc, pttOf, withRadio};
 
@@ -28,10 +31,28 @@ impl Tnc {
         ensures { λ r. ⌜ r ≡ newTnc ⌝ }
     {
         let buffer = KissBuffer::new();
-        let sending = Sending::new();
+        let streams = StreamQueue {
+            next: 0,
+            curr: 0,
+            full: false,
+            pending: false,
+        };
         Tnc {
             buffer: buffer,
-            sending: sending,
+            sending: Sending {
+                packets: PacketQueue {
+                    places: [Place {
+                        due: false,
+                        len: 0,
+                        sent: 0,
+                    }; 4],
+                    next: 0,
+                    curr: 0,
+                    full: false,
+                },
+                streams: streams,
+                tx_delay: 0,
+            },
             radio: Radio {
                 state: State::Idle,
                 outgoing: Outgoing { len: 0, read: 0 },
@@ -44,8 +65,7 @@ impl Tnc {
     pub fn is_sound(self) -> bool
         ensures { λ r. ⌜ r ≡ soundTnc self ⌝ }
     {
-        let buffer = self.buffer;
-        if MAX_FRAME_LEN < buffer.filled {
+        if MAX_FRAME_LEN < self.buffer.filled {
             return false;
         }
         let sending = self.sending;
@@ -57,10 +77,7 @@ impl Tnc {
             return false;
         }
         let state = radio.state;
-        if state.ptt() {
-            return self.ptt;
-        }
-        !self.ptt
+        self.ptt == state.ptt()
     }
 
     // Should PTT be on right now?

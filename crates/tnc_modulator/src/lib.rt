@@ -24,27 +24,24 @@ pub fn read_tx_frame(
 ) -> TxRead
     ensures { λ r. ⌜ r ≡ txRead state sending channel (now (packets .entry)) (now (streams .entry)) ⌝ }
 {
-    if packets.len() != STORE_LEN {
-        return unfilled(TxAnswer::WrongStore, state, sending, channel);
-    }
-    if streams.len() != STREAM_STORE_LEN {
+    if (packets.len() != STORE_LEN) | (streams.len() != STREAM_STORE_LEN) {
         return unfilled(TxAnswer::WrongStore, state, sending, channel);
     }
     if !all_sound(state, sending, channel) {
         return unfilled(TxAnswer::OutOfBounds, state, sending, channel);
     }
     match state.transmission() {
-        Transmission::Receiving => begin(state, sending, channel),
-        Transmission::Stream => give_stream(sending, channel, streams),
-        Transmission::StreamSent => unfilled(
+        Transmission::Receiving => return begin(state, sending, channel),
+        Transmission::Stream => return give_stream(sending, channel, streams),
+        Transmission::StreamSent => return unfilled(
             TxAnswer::EndOfTransmission,
             State::TxEnding,
             sending,
             channel,
         ),
-        Transmission::Packet => give_packet(sending, channel, packets),
+        Transmission::Packet => return give_packet(sending, channel, packets),
         // Until the clock has ended this transmission no new one begins.
-        Transmission::Ending => unfilled(TxAnswer::Nothing, state, sending, channel),
+        Transmission::Ending => return unfilled(TxAnswer::Nothing, state, sending, channel),
     }
 }
 

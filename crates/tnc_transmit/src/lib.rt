@@ -7,10 +7,10 @@ use protocol::PacketFrame;
 use protocol::StreamFrame;
 use radio::Radio;
 use tnc_core::Tnc;
+use tx_frame::NO_PACKET_FRAME;
+use tx_frame::NO_STREAM_FRAME;
 use tx_frame::TxAnswer;
 use tx_frame::TxRead;
-use tx_frame::no_packet_frame;
-use tx_frame::no_stream_frame;
 ghost use mathlib.Core.Path.{_≡_};
 ghost use Rattle.tnc_transmit.specs.Calls.{notGiven, putGiven, tncTx};
 
@@ -84,8 +84,8 @@ fn not_given(answer: TxAnswer, tnc: Tnc, channel: Channel) -> TncTx
         answer: answer,
         tx_delay: 0,
         lsf: LsfFrame([0u8; 30]),
-        stream: no_stream_frame(),
-        packet: no_packet_frame(),
+        stream: NO_STREAM_FRAME,
+        packet: NO_PACKET_FRAME,
         tnc: tnc,
         channel: channel,
     }

@@ -4,10 +4,10 @@ use channel::Channel;
 use protocol::LsfFrame;
 use sending::Sending;
 use state::State;
+use tx_frame::NO_PACKET_FRAME;
+use tx_frame::NO_STREAM_FRAME;
 use tx_frame::TxAnswer;
 use tx_frame::TxRead;
-use tx_frame::no_packet_frame;
-use tx_frame::no_stream_frame;
 use tx_frame::unfilled;
 ghost use mathlib.Core.Path.{_≡_};
 ghost use Rattle.tx_begin.specs.Begin.{keyedUp, begun};
@@ -20,12 +20,16 @@ pub fn begin(state: State, sending: Sending, channel: Channel) -> TxRead
         return unfilled(TxAnswer::Nothing, state, sending, channel);
     }
     let access = channel_access::access(channel);
-    let after = access.channel;
     let answer = access.answer;
     match answer {
-        AccessAnswer::Sends => key_up(sending, after),
-        AccessAnswer::Waits => unfilled(TxAnswer::Nothing, state, sending, after),
-        AccessAnswer::OutOfBounds => unfilled(TxAnswer::OutOfBounds, state, sending, after),
+        AccessAnswer::Sends => return key_up(sending, access.channel),
+        AccessAnswer::Waits => return unfilled(TxAnswer::Nothing, state, sending, access.channel),
+        AccessAnswer::OutOfBounds => return unfilled(
+            TxAnswer::OutOfBounds,
+            state,
+            sending,
+            access.channel,
+        ),
     }
 }
 
@@ -33,19 +37,17 @@ pub fn begin(state: State, sending: Sending, channel: Channel) -> TxRead
 fn key_up(sending: Sending, channel: Channel) -> TxRead
     ensures { λ r. ⌜ r ≡ keyedUp sending channel ⌝ }
 {
-    let tx_delay = sending.tx_delay;
-    let streams = sending.streams;
-    let state = if streams.pending {
+    let state = if sending.streams.pending {
         State::TxStream
     } else {
         State::TxPacket
     };
     TxRead {
         answer: TxAnswer::Preamble,
-        tx_delay: tx_delay,
+        tx_delay: sending.tx_delay,
         lsf: LsfFrame([0u8; 30]),
-        stream: no_stream_frame(),
-        packet: no_packet_frame(),
+        stream: NO_STREAM_FRAME,
+        packet: NO_PACKET_FRAME,
         state: state,
         sending: sending,
         channel: channel,

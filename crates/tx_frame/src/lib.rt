@@ -7,8 +7,6 @@ use protocol::StreamFrame;
 use sending::Sending;
 use state::State;
 ghost use mathlib.Core.Path.{_≡_};
-ghost use Rattle.packets.specs.Queue.{noFrame as noPiece};
-ghost use Rattle.streams.specs.Queue.{noFrame};
 ghost use Rattle.tx_frame.specs.Frame.{unfilled};
 
 pub enum TxAnswer {
@@ -35,6 +33,19 @@ pub struct TxRead {
     pub channel: Channel,
 }
 
+pub const NO_STREAM_FRAME: StreamFrame = StreamFrame {
+    lich_idx: 0,
+    lich_part: [0u8; 5],
+    frame_number: 0,
+    end_of_stream: false,
+    stream_data: [0u8; 16],
+};
+
+pub const NO_PACKET_FRAME: PacketFrame = PacketFrame {
+    payload: [0u8; 25],
+    counter: PacketFrameCounter::Frame { index: 0 },
+};
+
 // An answer without delay, LSF or frame.
 pub fn unfilled(answer: TxAnswer, state: State, sending: Sending, channel: Channel) -> TxRead
     ensures { λ r. ⌜ r ≡ unfilled answer state sending channel ⌝ }
@@ -43,31 +54,10 @@ pub fn unfilled(answer: TxAnswer, state: State, sending: Sending, channel: Chann
         answer: answer,
         tx_delay: 0,
         lsf: LsfFrame([0u8; 30]),
-        stream: no_stream_frame(),
-        packet: no_packet_frame(),
+        stream: NO_STREAM_FRAME,
+        packet: NO_PACKET_FRAME,
         state: state,
         sending: sending,
         channel: channel,
-    }
-}
-
-pub fn no_stream_frame() -> StreamFrame
-    ensures { λ r. ⌜ r ≡ noFrame ⌝ }
-{
-    StreamFrame {
-        lich_idx: 0,
-        lich_part: [0u8; 5],
-        frame_number: 0,
-        end_of_stream: false,
-        stream_data: [0u8; 16],
-    }
-}
-
-pub fn no_packet_frame() -> PacketFrame
-    ensures { λ r. ⌜ r ≡ noPiece ⌝ }
-{
-    PacketFrame {
-        payload: [0u8; 25],
-        counter: PacketFrameCounter::Frame { index: 0 },
     }
 }

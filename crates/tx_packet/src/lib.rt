@@ -3,27 +3,26 @@ use channel::Channel;
 use packets::ReadAnswer;
 use sending::Sending;
 use state::State;
+use tx_frame::NO_STREAM_FRAME;
 use tx_frame::TxAnswer;
 use tx_frame::TxRead;
-use tx_frame::no_stream_frame;
 ghost use mathlib.Core.Path.{_≡_};
 ghost use Rattle.tx_packet.specs.Packet.{packetAnswer, afterPacket, packetGiven};
 
 pub fn give_packet(sending: Sending, channel: Channel, packets: &[u8]) -> TxRead
     ensures { λ r. ⌜ r ≡ packetGiven sending channel (now (packets .entry)) ⌝ }
 {
-    let queue = sending.packets;
-    let streams = sending.streams;
-    let read = packet_read::read_next(queue, packets);
+    let read = packet_read::read_next(sending.packets, packets);
     let answer = read.answer;
     let lsf = read.lsf;
     let frame = read.frame;
     let rest = read.queue;
+    let streams = sending.streams;
     TxRead {
         answer: packet_answer(answer),
         tx_delay: 0,
         lsf: lsf,
-        stream: no_stream_frame(),
+        stream: NO_STREAM_FRAME,
         packet: frame,
         state: after_packet(answer),
         sending: Sending {

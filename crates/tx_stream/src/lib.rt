@@ -3,28 +3,27 @@ use channel::Channel;
 use sending::Sending;
 use state::State;
 use streams::StreamReadAnswer;
+use tx_frame::NO_PACKET_FRAME;
 use tx_frame::TxAnswer;
 use tx_frame::TxRead;
-use tx_frame::no_packet_frame;
 ghost use mathlib.Core.Path.{_≡_};
 ghost use Rattle.tx_stream.specs.Stream.{streamAnswer, afterStream, streamGiven};
 
 pub fn give_stream(sending: Sending, channel: Channel, streams: &[u8]) -> TxRead
     ensures { λ r. ⌜ r ≡ streamGiven sending channel (now (streams .entry)) ⌝ }
 {
-    let queue = sending.streams;
-    let packets = sending.packets;
-    let read = stream_read::read_next(queue, streams);
+    let read = stream_read::read_next(sending.streams, streams);
     let answer = read.answer;
     let lsf = read.lsf;
     let frame = read.frame;
+    let packets = sending.packets;
     let rest = read.queue;
     TxRead {
         answer: stream_answer(answer),
         tx_delay: 0,
         lsf: lsf,
         stream: frame,
-        packet: no_packet_frame(),
+        packet: NO_PACKET_FRAME,
         state: after_stream(answer, frame.end_of_stream),
         sending: Sending {
             packets: packets,

@@ -13,17 +13,17 @@ returns c =
 
 returns-2 : tie.Need-returns-2
 returns-2 c =
-    let e = c .before in let k = e .before .before .before in let w = k .before .before in let a = w .before .args in
+    let e = c .before in let k = e .before .before in let w = k .before .before in let a = w .before .args in
     c .key-up .ensures ∙ asked (a .state) (a .sending) (a .channel) (not-yes (w .wants-to-send .ensures) (k .before .if1 .left)) (k .access .ensures) (e .enum-told .given .1)
 
 returns-3 : tie.Need-returns-3
 returns-3 c =
-    let e = c .before in let k = e .before .before .before in let w = k .before .before in let a = w .before .args in
+    let e = c .before in let k = e .before .before in let w = k .before .before in let a = w .before .args in
     c .unfilled2 .ensures ∙ asked (a .state) (a .sending) (a .channel) (not-yes (w .wants-to-send .ensures) (k .before .if1 .left)) (k .access .ensures) (e .enum-told2 .given .1)
 
 returns-4 : tie.Need-returns-4
 returns-4 c =
-    let e = c .before in let k = e .before .before .before in let w = k .before .before in let a = w .before .args in
+    let e = c .before in let k = e .before .before in let w = k .before .before in let a = w .before .args in
     c .unfilled3 .ensures ∙ asked (a .state) (a .sending) (a .channel) (not-yes (w .wants-to-send .ensures) (k .before .if1 .left)) (k .access .ensures) (e .enum-told3 .given .1)
 
 pub begin-spec : {M : Type 1} → statement M
@@ -36,10 +36,10 @@ begin-spec =
     (λ c κs. search needs)
     (λ c. search needs)
     (λ c κs. search needs)
-    (λ c. search needs)
-    (λ c κs. search needs)
-    (λ c. search needs)
-    (λ c κs. search needs)
     returns-2
+    (λ c. search needs)
+    (λ c κs. search needs)
     returns-3
+    (λ c. search needs)
+    (λ c κs. search needs)
     returns-4)

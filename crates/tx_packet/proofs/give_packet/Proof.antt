@@ -7,8 +7,8 @@ use Rattle.tx_packet.proofs.give_packet.Tie as tie
 returns : tie.Need-returns
 unfolding packetGiven
 returns c =
-    let p = c .before in let a = p .before in
-    rw (c .after-packet .ensures, p .no-stream-frame .ensures, a .packet-answer .ensures, a .before .before .before .before .read-next .ensures)
+    let a = c .before in
+    rw (c .after-packet .ensures, a .packet-answer .ensures, a .before .before .before .before .before .read-next .ensures)
 
 pub give-packet-spec : {M : Type 1} → statement M
-give-packet-spec = tie.close (tie.spec (λ c κs. search needs) (λ c κs. search needs) (λ c κs. search needs) (λ c κs. search needs) returns)
+give-packet-spec = tie.close (tie.spec (λ c κs. search needs) (λ c κs. search needs) (λ c κs. search needs) returns)

@@ -7,8 +7,8 @@ use Rattle.tx_stream.proofs.give_stream.Tie as tie
 returns : tie.Need-returns
 unfolding streamGiven
 returns c =
-    let p = c .before in let a = p .before in
-    rw (c .after-stream .ensures, p .no-packet-frame .ensures, a .stream-answer .ensures, a .before .before .before .before .read-next .ensures)
+    let a = c .before in
+    rw (c .after-stream .ensures, a .stream-answer .ensures, a .before .before .before .before .before .read-next .ensures)
 
 pub give-stream-spec : {M : Type 1} → statement M
-give-stream-spec = tie.close (tie.spec (λ c κs. search needs) (λ c κs. search needs) (λ c κs. search needs) (λ c κs. search needs) returns)
+give-stream-spec = tie.close (tie.spec (λ c κs. search needs) (λ c κs. search needs) (λ c κs. search needs) returns)

@@ -1,7 +1,24 @@
 -- `tx_stream::stream_answer` meets its contract. Assumes nothing.
+use mathlib.Core.Path.{sym, ap}
 use borrow.Author.Needs.{needs}
+use Rattle.tx_stream.specs.Stream.{streamAnswer}
 use Rattle.tx_stream.proofs.stream_answer.Statement.{statement}
 use Rattle.tx_stream.proofs.stream_answer.Tie as tie
 
+returns : tie.Need-returns
+returns c = ap streamAnswer (sym (c .enum-told .given .1))
+
+returns-2 : tie.Need-returns-2
+returns-2 c = ap streamAnswer (sym (c .enum-told2 .given .1))
+
+returns-3 : tie.Need-returns-3
+returns-3 c = ap streamAnswer (sym (c .enum-told3 .given .1))
+
+returns-4 : tie.Need-returns-4
+returns-4 c = ap streamAnswer (sym (c .enum-told4 .given .1))
+
+returns-5 : tie.Need-returns-5
+returns-5 c = ap streamAnswer (sym (c .enum-told5 .given .1))
+
 pub stream-answer-spec : {M : Type 1} → statement M
-stream-answer-spec = tie.close (tie.spec (λ c. search needs) (λ c. search needs) (λ c. search needs) (λ c. search needs) (λ c. search needs) (λ c. search needs) (λ c. search needs) (λ c. search needs) (λ c. search needs) (λ c. search needs))
+stream-answer-spec = tie.close (tie.spec (λ c. search needs) (λ c. search needs) (λ c. search needs) (λ c. search needs) (λ c. search needs) returns returns-2 returns-3 returns-4 returns-5)

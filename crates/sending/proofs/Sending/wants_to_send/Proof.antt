@@ -1,7 +1,7 @@
 -- `sending::Sending::wants_to_send` meets its contract. Assumes nothing.
 use mathlib.Core.Bool.{not}
-use mathlib.Core.Path.{ap}
-use Rattle.choice.specs.Pick.{pick-no, tests}
+use mathlib.Core.Path.{refl, ap}
+use Rattle.choice.specs.Pick.{pick-yes, pick-no}
 use Rattle.sending.specs.Sending.{wantsToSend}
 use borrow.Author.Needs.{needs}
 use Rattle.sending.proofs.Sending.wants_to_send.Statement.{statement}
@@ -9,7 +9,7 @@ use Rattle.sending.proofs.Sending.wants_to_send.Tie as tie
 
 returns : tie.Need-returns
 unfolding wantsToSend
-returns c = search tests
+returns c = pick-yes _ (c .if1 .taken) refl
 
 returns-2 : tie.Need-returns-2
 unfolding wantsToSend

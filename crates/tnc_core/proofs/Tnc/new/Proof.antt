@@ -2,12 +2,13 @@
 use borrow.Author.Needs.{needs}
 use mathlib.Core.Bool.{false}
 use Rattle.outgoing.specs.Message.{noMessage}
+use Rattle.sending.specs.Sending.{newSending}
 use Rattle.state.specs.declared.State.the-variants.{Idle}
 use Rattle.tnc_core.proofs.Tnc.new.Statement.{statement}
 use Rattle.tnc_core.proofs.Tnc.new.Tie as tie
 
 returns : tie.Need-returns
-returns c = λ t. record { buffer = c .before .new .ensures t; sending = c .new2 .ensures t; radio = record { state = Idle; outgoing = noMessage }; ptt = false }
+returns c = λ t. record { buffer = c .new .ensures t; sending = newSending; radio = record { state = Idle; outgoing = noMessage }; ptt = false }
 
 pub new-spec : {M : Type 1} → statement M
-new-spec = tie.close (tie.spec (λ c κs. search needs) (λ c κs. search needs) returns)
+new-spec = tie.close (tie.spec (λ c κs. search needs) returns)
