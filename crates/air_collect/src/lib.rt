@@ -19,7 +19,10 @@ pub fn collect_after(
     ensures { λ r. ⌜ (r, now (rx .exit)) ≡ collectedAt radio count index payload (now (rx .entry)) ⌝ }
 {
     if rx.len() != RX_STORE_LEN {
-        return radio.answered(AirAnswer::WrongStore);
+        return Heard {
+            answer: AirAnswer::WrongStore,
+            radio: radio,
+        };
     }
     if index != count {
         return radio.turned(State::Idle);

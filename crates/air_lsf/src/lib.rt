@@ -10,36 +10,27 @@ use radio_hears::hears;
 use radio_told::told;
 use state::State;
 ghost use mathlib.Core.Path.{_≡_};
-ghost use lib.ListN.{length};
-ghost use Rattle.radio.specs.Radio.{RX, MESSAGE};
-ghost use Rattle.air_lsf.specs.Begun.{packetBegun, streamBegun, lsfHeard};
+ghost use Rattle.air_lsf.specs.Begun.{lsfHeard};
 
 // A new LSF clears what went before. While we send, it is our own.
 pub fn handle_lsf(radio: Radio, lsf: LsfFrame, rx: &mut [u8], out: &mut [u8]) -> Heard
     ensures { λ r. ⌜ (r, now (rx .exit), now (out .exit)) ≡ lsfHeard radio (lsf .0) (now (rx .entry)) (now (out .entry)) ⌝ }
 {
     let bytes = lsf.0;
-    match hears(radio, rx, out) {
-        Hears::Answer(answer) => radio.answered(answer),
+    match hears(radio, rx.len(), out.len()) {
+        Hears::Answer(answer) => return Heard {
+            answer: answer,
+            radio: radio,
+        },
         Hears::Frame => match lsf.mode() {
-            Mode::Packet => begin_packet(radio, bytes, rx),
-            Mode::Stream => begin_stream(bytes, out),
+            Mode::Packet => {
+                store::copy_in(&bytes, rx, 0);
+                return radio.turned(State::RxPacket(0));
+            }
+            Mode::Stream => {
+                let built = new_stream_setup(&bytes, out);
+                return told(State::RxStream(0), built);
+            }
         },
     }
-}
-
-fn begin_packet(radio: Radio, lsf: [u8; 30], rx: &mut [u8]) -> Heard
-    requires { ⌜ length (now rx) ≡ RX ⌝ }
-    ensures { λ r. ⌜ (r, now (rx .exit)) ≡ packetBegun radio lsf (now (rx .entry)) ⌝ }
-{
-    store::copy_in(&lsf, rx, 0);
-    radio.turned(State::RxPacket(0))
-}
-
-fn begin_stream(lsf: [u8; 30], out: &mut [u8]) -> Heard
-    requires { ⌜ length (now out) ≡ MESSAGE ⌝ }
-    ensures { λ r. ⌜ (r, now (out .exit)) ≡ streamBegun lsf (now (out .entry)) ⌝ }
-{
-    let built = new_stream_setup(&lsf, out);
-    told(State::RxStream(0), built)
 }

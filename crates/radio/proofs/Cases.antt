@@ -11,7 +11,7 @@ use Rattle.radio.specs.declared.Radio.{Radio}
 use Rattle.radio.specs.declared.Heard.{Heard}
 use Rattle.radio.specs.declared.Hears.{Hears}
 use Rattle.radio.specs.declared.Hears.the-variants.{Frame, Answer}
-use Rattle.radio.specs.Radio.{RX, MESSAGE, soundRadio, hearsOf, listening, unlessSending}
+use Rattle.radio.specs.Radio.{RX, MESSAGE, soundRadio, hearsBy, hearsOf, listening, unlessSending}
 use Rattle.radio.specs.Box.{Box, Receiving}
 
 -- what `hears` answered decides
@@ -25,7 +25,7 @@ told-frame Frame = Unit {0}
 told-frame (Answer a) = ⊥
 
 pub frame-only : (x : Box) → hearsOf (x .radio) (x .rx) (x .out) ≡ Frame → Receiving x
-unfolding hearsOf
+unfolding hearsBy
 frame-only x e = go (subst told-frame (sym e) Prim.tt)
   where
     go : told-frame (hearsOf (x .radio) (x .rx) (x .out)) → Receiving x

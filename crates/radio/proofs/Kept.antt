@@ -12,14 +12,14 @@ use Rattle.radio.specs.declared.AirAnswer.{AirAnswer}
 use Rattle.radio.specs.declared.Heard.{Heard}
 use Rattle.radio.specs.declared.Hears.{Hears}
 use Rattle.radio.specs.declared.Hears.the-variants.{Frame, Answer}
-use Rattle.radio.specs.Radio.{RX, MESSAGE, soundRadio, answered, hearsOf, listening, unlessSending}
+use Rattle.radio.specs.Radio.{RX, MESSAGE, soundRadio, answered, hearsBy, hearsOf, listening, unlessSending}
 use Rattle.radio.specs.Box.{Box, Receiving}
 use Rattle.radio.specs.Promises.{ReceivingHears, OnlyReceivingHears, ListenedTo, SendingHearsNothing, ToHostIsTold, ToldStaysSound}
 use Rattle.radio.proofs.Messages.{length-over, told-sound, left-over}
 use Rattle.radio.proofs.Cases.{frame-only, heard-as}
 
 pub receiving-hears : ReceivingHears
-unfolding hearsOf pick
+unfolding hearsBy pick
 receiving-hears x g =
     rw (eq-eqb (length (x .rx)) RX (g .sound .its-rx), eq-eqb (length (x .out)) MESSAGE (g .sound .its-out), g .sound .its-state, g .not-sending)
 
@@ -30,7 +30,7 @@ pub listened-to : ListenedTo
 listened-to x h g = sym (heard-as (x .radio) (x .rx) (x .out) h refl (receiving-hears x g))
 
 pub sending-hears-nothing : SendingHearsNothing
-unfolding hearsOf unlessSending pick
+unfolding hearsBy unlessSending pick
 sending-hears-nothing x h s on = rw (eq-eqb (length (x .rx)) RX (s .its-rx), eq-eqb (length (x .out)) MESSAGE (s .its-out), s .its-state, on)
 
 -- what holds of each outcome of a frame holds of what comes of it

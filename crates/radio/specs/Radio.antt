@@ -39,11 +39,15 @@ abbrev pub toHost : State → Building → List ℕ → Heard × List ℕ
 toHost s b out = (answered Done (record { state = s; outgoing = record { len = length (frameOf b); read = 0 } }), over (frameOf b) out)
 
 -- the order is 7 for the stores, 8 for the record, and then, while PTT is on, 0
-unfoldable pub hearsOf : Radio → List ℕ → List ℕ → Hears
-hearsOf r rx out =
-    pick (eqb (length rx) RX)
-    (pick (eqb (length out) MESSAGE) (pick (soundRadio r) (pick (transmits (r .state)) (Answer Done) Frame) (Answer OutOfBounds)) (Answer WrongStore))
+unfoldable pub hearsBy : Radio → ℕ → ℕ → Hears
+hearsBy r rx out =
+    pick (eqb rx RX)
+    (pick (eqb out MESSAGE) (pick (soundRadio r) (pick (transmits (r .state)) (Answer Done) Frame) (Answer OutOfBounds)) (Answer WrongStore))
     (Answer WrongStore)
+
+-- of the stores only their lengths count
+abbrev pub hearsOf : Radio → List ℕ → List ℕ → Hears
+hearsOf r rx out = hearsBy r (length rx) (length out)
 
 abbrev pub listening : Hears → Radio → List ℕ → List ℕ → Heard × List ℕ × List ℕ → Heard × List ℕ × List ℕ
 listening Frame r rx out h = h

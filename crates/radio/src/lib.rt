@@ -2,7 +2,7 @@
 use outgoing::Outgoing;
 use state::State;
 ghost use mathlib.Core.Path.{_≡_};
-ghost use Rattle.radio.specs.Radio.{soundRadio, answered, turned};
+ghost use Rattle.radio.specs.Radio.{soundRadio, turned};
 
 // What is being received stands in a store of the caller's: the LSF, or its LICH segments, and behind it the packet.
 pub const RX_STORE_LEN: usize = 855;
@@ -41,16 +41,6 @@ impl Radio {
             return false;
         }
         self.outgoing.is_sound()
-    }
-
-    // Nothing has changed.
-    pub fn answered(self, answer: AirAnswer) -> Heard
-        ensures { λ r. ⌜ r ≡ answered answer self ⌝ }
-    {
-        Heard {
-            answer: answer,
-            radio: self,
-        }
     }
 
     // Another state. The message that waits goes on waiting.

@@ -5,16 +5,16 @@ use radio::MESSAGE_STORE_LEN;
 use radio::RX_STORE_LEN;
 use radio::Radio;
 ghost use mathlib.Core.Path.{_≡_};
-ghost use Rattle.radio.specs.Radio.{hearsOf};
+ghost use Rattle.radio.specs.Radio.{hearsBy};
 
-// The four tests of every call: the two stores, the record, and whether we send. While we send, what is heard is our own.
-pub fn hears(radio: Radio, rx: &[u8], out: &[u8]) -> Hears
-    ensures { λ r. ⌜ r ≡ hearsOf radio (now (rx .entry)) (now (out .entry)) ⌝ }
+// The four tests of every call: the two stores, by their lengths, the record, and whether we send. While we send, what is heard is our own.
+pub fn hears(radio: Radio, rx: usize, out: usize) -> Hears
+    ensures { λ r. ⌜ r ≡ hearsBy radio rx out ⌝ }
 {
-    if rx.len() != RX_STORE_LEN {
+    if rx != RX_STORE_LEN {
         return Hears::Answer(AirAnswer::WrongStore);
     }
-    if out.len() != MESSAGE_STORE_LEN {
+    if out != MESSAGE_STORE_LEN {
         return Hears::Answer(AirAnswer::WrongStore);
     }
     if !radio.is_sound() {

@@ -17,7 +17,10 @@ pub fn complete(radio: Radio, collection: LichCollection, number: u16, out: &mut
     ensures { λ r. ⌜ (r, now (out .exit)) ≡ acquiredBy radio collection number (now (out .entry)) ⌝ }
 {
     if 32767 < number {
-        return radio.answered(AirAnswer::OutOfRange);
+        return Heard {
+            answer: AirAnswer::OutOfRange,
+            radio: radio,
+        };
     }
     let whole = collection.try_assemble();
     let lsf = whole.bytes;
@@ -28,9 +31,9 @@ pub fn complete(radio: Radio, collection: LichCollection, number: u16, out: &mut
                 return radio.turned(State::RxAcquiringStream(collection.mask));
             }
             let built = new_stream_setup(&lsf, out);
-            told(State::RxStream(number + 1), built)
+            return told(State::RxStream(number + 1), built);
         }
-        Assembly::Missing => radio.turned(State::RxAcquiringStream(collection.mask)),
-        Assembly::OutOfBounds => radio.turned(State::RxAcquiringStream(collection.mask)),
+        Assembly::Missing => return radio.turned(State::RxAcquiringStream(collection.mask)),
+        Assembly::OutOfBounds => return radio.turned(State::RxAcquiringStream(collection.mask)),
     }
 }

@@ -21,7 +21,10 @@ pub fn follow(
     ensures { λ r. ⌜ (r, now (rx .exit), now (out .exit)) ≡ followedBy radio expected frame (now (rx .entry)) (now (out .entry)) ⌝ }
 {
     if 32767 < frame.frame_number {
-        return radio.answered(AirAnswer::OutOfRange);
+        return Heard {
+            answer: AirAnswer::OutOfRange,
+            radio: radio,
+        };
     }
     if frame.frame_number < expected {
         return restart(radio, frame, rx);

@@ -17,7 +17,7 @@ ghost use mathlib.Core.Bool.{true};
 ghost use mathlib.Core.Path.{_≡_};
 ghost use lib.ListN.{length};
 ghost use Rattle.radio.specs.Radio.{RX, MESSAGE, soundRadio};
-ghost use Rattle.tnc_air.specs.Heard.{collected, packetTold, finishedAfter, finished, packetHeard};
+ghost use Rattle.tnc_air.specs.Heard.{collected, packetTold, finished, packetHeard};
 
 // The packet goes to the host with its last frame, be its length 0 too. A frame that does not follow makes the radio idle.
 pub fn handle_packet(radio: Radio, frame: PacketFrame, rx: &mut [u8], out: &mut [u8]) -> Heard
@@ -25,11 +25,14 @@ pub fn handle_packet(radio: Radio, frame: PacketFrame, rx: &mut [u8], out: &mut 
 {
     let payload = frame.payload;
     let counter = frame.counter;
-    match hears(radio, rx, out) {
-        Hears::Answer(answer) => radio.answered(answer),
+    match hears(radio, rx.len(), out.len()) {
+        Hears::Answer(answer) => return Heard {
+            answer: answer,
+            radio: radio,
+        },
         Hears::Frame => match counter {
-            PacketFrameCounter::Frame { index } => collect(radio, index, payload, rx),
-            PacketFrameCounter::FinalFrame { payload_len } => finish(
+            PacketFrameCounter::Frame { index } => return collect(radio, index, payload, rx),
+            PacketFrameCounter::FinalFrame { payload_len } => return finish(
                 radio,
                 payload_len,
                 payload,
@@ -47,38 +50,35 @@ fn collect(radio: Radio, index: usize, payload: [u8; 25], rx: &mut [u8]) -> Hear
 {
     let state = radio.state;
     match state.reception() {
-        Reception::Nothing => radio.turned(State::Idle),
-        Reception::Acquiring(_) => radio.turned(State::Idle),
-        Reception::Stream(_) => radio.turned(State::Idle),
-        Reception::Packet(count) => collect_after(radio, count, index, payload, rx),
+        Reception::Nothing => return radio.turned(State::Idle),
+        Reception::Acquiring(_) => return radio.turned(State::Idle),
+        Reception::Stream(_) => return radio.turned(State::Idle),
+        Reception::Packet(count) => return collect_after(radio, count, index, payload, rx),
     }
 }
 
-// A packet's last frame.
+// A packet's last frame: where a packet is being received, it goes to the host.
 fn finish(radio: Radio, len: usize, payload: [u8; 25], rx: &mut [u8], out: &mut [u8]) -> Heard
     requires { ⌜ (soundRadio radio ≡ true) × (length (now rx) ≡ RX) × (length (now out) ≡ MESSAGE) ⌝ }
     ensures { λ r. ⌜ (r, now (rx .exit), now (out .exit)) ≡ finished radio len payload (now (rx .entry)) (now (out .entry)) ⌝ }
 {
     if 25 < len {
-        return radio.answered(AirAnswer::OutOfRange);
+        return Heard {
+            answer: AirAnswer::OutOfRange,
+            radio: radio,
+        };
     }
     let state = radio.state;
     match state.reception() {
-        Reception::Nothing => radio.turned(State::Idle),
-        Reception::Acquiring(_) => radio.turned(State::Idle),
-        Reception::Stream(_) => radio.turned(State::Idle),
-        Reception::Packet(count) => finish_after(count, len, payload, rx, out),
+        Reception::Nothing => return radio.turned(State::Idle),
+        Reception::Acquiring(_) => return radio.turned(State::Idle),
+        Reception::Stream(_) => return radio.turned(State::Idle),
+        Reception::Packet(count) => {
+            let before = 25 * count;
+            store::copy_in(&payload[..len], rx, 30 + before);
+            return tell_packet(rx, before + len, out);
+        }
     }
-}
-
-// A packet's last frame, after so many others: the packet goes to the host.
-fn finish_after(count: usize, len: usize, payload: [u8; 25], rx: &mut [u8], out: &mut [u8]) -> Heard
-    requires { ⌜ (count ≤ 32) × (len ≤ 25) × (length (now rx) ≡ RX) × (length (now out) ≡ MESSAGE) ⌝ }
-    ensures { λ r. ⌜ (r, now (rx .exit), now (out .exit)) ≡ finishedAfter count len payload (now (rx .entry)) (now (out .entry)) ⌝ }
-{
-    let before = 25 * count;
-    store::copy_in(&payload[..len], rx, 30 + before);
-    tell_packet(rx, before + len, out)
 }
 
 // Two parts of one store go to the builder, which only a shared reference can lend.

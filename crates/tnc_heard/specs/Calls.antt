@@ -22,11 +22,15 @@ notHeard a t = record { answer = a; tnc = t }
 abbrev pub putHeard : Tnc → Heard → TncHeard
 putHeard t h = record { answer = h .answer; tnc = withRadio t (h .radio) }
 
-unfoldable pub tncHears : Tnc → List ℕ → List ℕ → Hears
-tncHears t rx message =
-    pick (eqb (length rx) RX)
-    (pick (eqb (length message) MESSAGE) (pick (soundTnc t) Frame (Answer NoAirState)) (Answer NoAirStore))
+abbrev pub hearsBy : Tnc → ℕ → ℕ → Hears
+hearsBy t rx message =
+    pick (eqb rx RX)
+    (pick (eqb message MESSAGE) (pick (soundTnc t) Frame (Answer NoAirState)) (Answer NoAirStore))
     (Answer NoAirStore)
+
+-- of the stores only their lengths count
+unfoldable pub tncHears : Tnc → List ℕ → List ℕ → Hears
+tncHears t rx message = hearsBy t (length rx) (length message)
 
 abbrev pub heardBy : Hears → Tnc → List ℕ → List ℕ → Heard × List ℕ × List ℕ → TncHeard × List ℕ × List ℕ
 heardBy Frame t rx message h = (putHeard t (h .0), h .1, h .2)

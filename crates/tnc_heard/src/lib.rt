@@ -6,21 +6,21 @@ use radio::MESSAGE_STORE_LEN;
 use radio::RX_STORE_LEN;
 use tnc_core::Tnc;
 ghost use mathlib.Core.Path.{_≡_};
-ghost use Rattle.tnc_heard.specs.Calls.{tncHears, putHeard};
+ghost use Rattle.tnc_heard.specs.Calls.{hearsBy, putHeard};
 
 pub struct TncHeard {
     pub answer: AirAnswer,
     pub tnc: Tnc,
 }
 
-// The stores, then the record: the rest the calls of the radio see to.
-pub fn hears(tnc: Tnc, rx: &[u8], message: &[u8]) -> Hears
-    ensures { λ r. ⌜ r ≡ tncHears tnc (now (rx .entry)) (now (message .entry)) ⌝ }
+// The stores, by their lengths, then the record: the rest the calls of the radio see to.
+pub fn hears(tnc: Tnc, rx: usize, message: usize) -> Hears
+    ensures { λ r. ⌜ r ≡ hearsBy tnc rx message ⌝ }
 {
-    if rx.len() != RX_STORE_LEN {
+    if rx != RX_STORE_LEN {
         return Hears::Answer(AirAnswer::WrongStore);
     }
-    if message.len() != MESSAGE_STORE_LEN {
+    if message != MESSAGE_STORE_LEN {
         return Hears::Answer(AirAnswer::WrongStore);
     }
     if !tnc.is_sound() {

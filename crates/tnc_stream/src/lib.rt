@@ -12,38 +12,41 @@ use stream_acquire::complete;
 use stream_follow::follow;
 use stream_restart::restart;
 ghost use Prim.Native.Nat.{_≤_, _<_};
-ghost use mathlib.Core.Bool.{true};
 ghost use mathlib.Core.Path.{_≡_};
 ghost use lib.ListN.{length};
-ghost use Rattle.radio.specs.Radio.{RX, MESSAGE, soundRadio};
-ghost use Rattle.tnc_stream.specs.Stream.{acquired, ranged, streamHeard};
+ghost use Rattle.radio.specs.Radio.{RX, MESSAGE};
+ghost use Rattle.tnc_stream.specs.Stream.{acquired, streamHeard};
 
 // A stream frame follows the one before it, or brings a segment of the LSF. While we send, it is our own.
 pub fn handle_stream(radio: Radio, frame: StreamFrame, rx: &mut [u8], out: &mut [u8]) -> Heard
     ensures { λ r. ⌜ (r, now (rx .exit), now (out .exit)) ≡ streamHeard radio frame (now (rx .entry)) (now (out .entry)) ⌝ }
 {
-    match hears(radio, rx, out) {
-        Hears::Answer(answer) => radio.answered(answer),
-        Hears::Frame => listen(radio, frame, rx, out),
-    }
-}
-
-fn listen(radio: Radio, frame: StreamFrame, rx: &mut [u8], out: &mut [u8]) -> Heard
-    requires { ⌜ (soundRadio radio ≡ true) × (length (now rx) ≡ RX) × (length (now out) ≡ MESSAGE) ⌝ }
-    ensures { λ r. ⌜ (r, now (rx .exit), now (out .exit)) ≡ ranged radio frame (now (rx .entry)) (now (out .entry)) ⌝ }
-{
-    if 5 < frame.lich_idx {
-        return radio.answered(AirAnswer::OutOfRange);
-    }
-    if 32767 < frame.frame_number {
-        return radio.answered(AirAnswer::OutOfRange);
-    }
-    let state = radio.state;
-    match state.reception() {
-        Reception::Nothing => restart(radio, frame, rx),
-        Reception::Acquiring(mask) => acquire(radio, mask, frame, rx, out),
-        Reception::Stream(expected) => follow(radio, expected, frame, rx, out),
-        Reception::Packet(_) => restart(radio, frame, rx),
+    match hears(radio, rx.len(), out.len()) {
+        Hears::Answer(answer) => return Heard {
+            answer: answer,
+            radio: radio,
+        },
+        Hears::Frame => {
+            if 5 < frame.lich_idx {
+                return Heard {
+                    answer: AirAnswer::OutOfRange,
+                    radio: radio,
+                };
+            }
+            if 32767 < frame.frame_number {
+                return Heard {
+                    answer: AirAnswer::OutOfRange,
+                    radio: radio,
+                };
+            }
+            let state = radio.state;
+            match state.reception() {
+                Reception::Nothing => return restart(radio, frame, rx),
+                Reception::Acquiring(mask) => return acquire(radio, mask, frame, rx, out),
+                Reception::Stream(expected) => return follow(radio, expected, frame, rx, out),
+                Reception::Packet(_) => return restart(radio, frame, rx),
+            }
+        }
     }
 }
 

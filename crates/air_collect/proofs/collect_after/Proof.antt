@@ -1,6 +1,6 @@
 -- `air_collect::collect_after` meets its contract. Assumes nothing.
 use Prim.Native.Nat.{_+_, _≤_}
-use mathlib.Core.Path.{_≡_, _∙_}
+use mathlib.Core.Path.{_≡_, refl, _∙_}
 use native.Mathlib.Omega.{arith}
 use borrow.Author.Needs.{needs}
 use lib.ListN.{length}
@@ -15,7 +15,7 @@ its-25 : (c : tie.Start) → length (c .args .t4) ≡ 25
 its-25 c = search needs
 
 returns : tie.Need-returns
-returns c = let i = c .before in let a = i .before .before .args in wrong-store (a .radio) (a .count) (a .index) (a .t4) (a .rx .now) (c .answered .ensures) (i .if1 .taken)
+returns c = let a = c .before .before .args in wrong-store (a .radio) (a .count) (a .index) (a .t4) (a .rx .now) refl (c .if1 .taken)
 
 returns-2 : tie.Need-returns-2
 returns-2 c =
@@ -39,20 +39,4 @@ returns-4 c =
     (copied-in p d (placeOf (a .index)) (y .copy-in .ensures) fits ∙ sets-eq p d (placeOf (a .index)) fits))
 
 pub collect-after-spec : {M : Type 1} → statement M
-collect-after-spec =
-    tie.close
-    (tie.spec
-    (λ c κs. search needs)
-    returns
-    (λ c κs. search needs)
-    returns-2
-    (λ c κs. search needs)
-    returns-3
-    (λ c. search needs)
-    (λ c. search needs)
-    (λ c. search needs)
-    (λ c κs. search needs)
-    (λ c. search needs)
-    (λ c κs. search needs)
-    (λ c. search needs)
-    returns-4)
+collect-after-spec = tie.close (tie.spec returns (λ c κs. search needs) returns-2 (λ c κs. search needs) returns-3 (λ c. search needs) (λ c. search needs) (λ c. search needs) (λ c κs. search needs) (λ c. search needs) (λ c κs. search needs) (λ c. search needs) returns-4)

@@ -1,12 +1,12 @@
 -- `stream_acquire::complete` meets its contract. Assumes nothing.
-use mathlib.Core.Path.{_∙_}
+use mathlib.Core.Path.{refl, _∙_}
 use Rattle.stream_acquire.proofs.Assemblies.{number-over, answered-as, wrong-crc, right-crc}
 use borrow.Author.Needs.{needs}
 use Rattle.stream_acquire.proofs.complete.Statement.{statement}
 use Rattle.stream_acquire.proofs.complete.Tie as tie
 
 returns : tie.Need-returns
-returns c = let i = c .before in let a = i .before .before .args in number-over (a .radio) (a .collection) (a .number) (a .out .now) (c .answered .ensures) (i .if1 .taken)
+returns c = let a = c .before .before .args in number-over (a .radio) (a .collection) (a .number) (a .out .now) refl (c .if1 .taken)
 
 returns-2 : tie.Need-returns-2
 returns-2 c =
@@ -31,4 +31,4 @@ returns-5 c =
     (λ t. (c .turned3 .ensures t, a .out .now)) ∙ answered-as (a .radio) (a .collection) (a .number) (a .out .now) (i .if1 .left) (y .try-assemble .ensures) (w .enum-told3 .given .1)
 
 pub complete-spec : {M : Type 1} → statement M
-complete-spec = tie.close (tie.spec (λ c κs. search needs) returns (λ c κs. search needs) (λ c. search needs) (λ c κs. search needs) (λ c κs. search needs) returns-2 (λ c. search needs) (λ c κs. search needs) (λ c. search needs) (λ c κs. search needs) (λ c. search needs) (λ c κs. search needs) (λ c. search needs) (λ c κs. search needs) (λ c. search needs) returns-3 returns-4 returns-5)
+complete-spec = tie.close (tie.spec returns (λ c κs. search needs) (λ c. search needs) (λ c κs. search needs) (λ c κs. search needs) returns-2 (λ c. search needs) (λ c κs. search needs) (λ c. search needs) (λ c κs. search needs) (λ c. search needs) returns-3 (λ c. search needs) (λ c κs. search needs) returns-4 (λ c. search needs) (λ c κs. search needs) returns-5)

@@ -1,5 +1,6 @@
 -- `stream_follow::follow` meets its contract. Assumes nothing.
 use Prim.Native.Nat.{_+_}
+use mathlib.Core.Path.{refl}
 use Rattle.choice.specs.Pick.{pick}
 use Rattle.state.specs.declared.State.the-variants.{Idle, RxStream}
 use Rattle.stream_follow.proofs.Follows.{number-over, goes-back, goes-on}
@@ -9,8 +10,7 @@ use Rattle.stream_follow.proofs.follow.Tie as tie
 
 returns : tie.Need-returns
 returns c =
-    let i = c .before in let a = i .before .before .before .before .args in
-    number-over (a .radio) (a .frame) (a .rx .now) (a .out .now) (a .expected) (c .answered .ensures) (i .if1 .taken)
+    let a = c .before .before .before .before .args in number-over (a .radio) (a .frame) (a .rx .now) (a .out .now) (a .expected) refl (c .if1 .taken)
 
 returns-2 : tie.Need-returns-2
 returns-2 c =
@@ -31,4 +31,4 @@ returns-4 c =
     (rw (k .if3 .left)) (j .if2 .left)
 
 pub follow-spec : {M : Type 1} → statement M
-follow-spec = tie.close (tie.spec (λ c κs. search needs) returns (λ c κs. search needs) (λ c. search needs) returns-2 (λ c κs. search needs) (λ c κs. search needs) (λ c. search needs) returns-3 (λ c. search needs) (λ c κs. search needs) (λ c. search needs) returns-4)
+follow-spec = tie.close (tie.spec returns (λ c κs. search needs) (λ c. search needs) returns-2 (λ c κs. search needs) (λ c κs. search needs) (λ c. search needs) returns-3 (λ c. search needs) (λ c κs. search needs) (λ c. search needs) returns-4)

@@ -27,4 +27,4 @@ returns-4 c =
     b .collect-after .ensures ∙ in-right-store (a .radio) (w .count .given .0 .0) (a .index) (a .payload) (a .rx .now) (s .pre) ∙ collected-as (a .radio) (a .index) (a .payload) (a .rx .now) (k .reception .ensures) (w .count .given .1)
 
 pub collect-spec : {M : Type 1} → statement M
-collect-spec = tie.close (tie.spec (λ c κs. search needs) (λ c. search needs) (λ c κs. search needs) (λ c. search needs) (λ c κs. search needs) (λ c. search needs) (λ c κs. search needs) (λ c. search needs) (λ c κs. search needs) returns returns-2 returns-3 (λ c. search needs) returns-4)
+collect-spec = tie.close (tie.spec (λ c κs. search needs) (λ c. search needs) (λ c κs. search needs) returns (λ c. search needs) (λ c κs. search needs) returns-2 (λ c. search needs) (λ c κs. search needs) returns-3 (λ c. search needs) (λ c κs. search needs) (λ c. search needs) returns-4)

@@ -12,7 +12,7 @@ use Rattle.tnc_air.proofs.handle_packet.Statement.{statement}
 use Rattle.tnc_air.proofs.handle_packet.Tie as tie
 
 abbrev start : tie.After-hears → tie.Start
-start h = h .before .before .before .before .before .before
+start h = h .before .before .before .before
 
 abbrev box : tie.Start → Box
 box s = let a = s .args in record { radio = a .radio; rx = a .rx .now; out = a .out .now }
@@ -33,8 +33,8 @@ finish-requires c κs = let s = listened (c .before .before .before .before .bef
 returns : tie.Need-returns
 unfolding packetHeard heard
 returns c =
-    let k = c .before .before in let h = k .before .before in let s = start h in let a = s .args in
-    (λ t. (c .answered .ensures t, a .rx .now, a .out .now)) ∙ heard-as (a .radio) (a .rx .now) (a .out .now) (heard s) (h .hears .ensures) (k .answer .given .1)
+    let k = c .before in let h = k .before .before in let s = start h in let a = s .args in
+    heard-as (a .radio) (a .rx .now) (a .out .now) (heard s) (h .hears .ensures) (k .answer .given .1)
 
 returns-2 : tie.Need-returns-2
 unfolding packetHeard heard
@@ -53,4 +53,4 @@ returns-3 c =
     ∙ heard-as (a .radio) (a .rx .now) (a .out .now) (heard s) (h .hears .ensures) (w .enum-told .given .1)
 
 pub handle-packet-spec : {M : Type 1} → statement M
-handle-packet-spec = tie.close (tie.spec (λ c κs. search needs) (λ c. search needs) (λ c κs. search needs) (λ c. search needs) (λ c. search needs) collect-requires (λ c. search needs) finish-requires (λ c. search needs) (λ c. search needs) returns (λ c. search needs) (λ c. search needs) returns-2 (λ c. search needs) (λ c. search needs) returns-3)
+handle-packet-spec = tie.close (tie.spec (λ c κs. search needs) (λ c. search needs) returns (λ c. search needs) (λ c. search needs) collect-requires (λ c. search needs) returns-2 (λ c. search needs) finish-requires (λ c. search needs) (λ c. search needs) returns-3)
