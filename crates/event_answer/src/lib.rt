@@ -45,9 +45,9 @@ fn is_on(ptt: Ptt) -> bool
     ensures { λ r. ⌜ r ≡ onFlag ptt ⌝ }
 {
     match ptt {
-        Ptt::Off => false,
-        Ptt::On => true,
-        Ptt::OutOfBounds => false,
+        Ptt::Off => return false,
+        Ptt::On => return true,
+        Ptt::OutOfBounds => return false,
     }
 }
 
@@ -55,7 +55,5 @@ fn is_on(ptt: Ptt) -> bool
 pub fn refuse(before: EventBox) -> Applied
     ensures { λ r. ⌜ r ≡ refused before ⌝ }
 {
-    let tnc = before.tnc;
-    let channel = before.channel;
-    answer(9, 0, tnc, channel)
+    answer(9, 0, before.tnc, before.channel)
 }

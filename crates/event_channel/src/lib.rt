@@ -21,12 +21,9 @@ pub fn carrier(before: EventBox, body: &[u8]) -> Applied
     if body.len() != 1 {
         return refuse(before);
     }
-    let tnc = before.tnc;
-    let channel = before.channel;
-    let set = channel.set_data_carrier_detect(body[0] != 0);
+    let set = before.channel.set_data_carrier_detect(body[0] != 0);
     let given = set.answer;
-    let channel_after = set.channel;
-    answer(set_number(given), 0, tnc, channel_after)
+    answer(set_number(given), 0, before.tnc, set.channel)
 }
 
 pub fn clock(before: EventBox, body: &[u8]) -> Applied
@@ -35,15 +32,9 @@ pub fn clock(before: EventBox, body: &[u8]) -> Applied
     if body.len() != 8 {
         return refuse(before);
     }
-    let tnc = before.tnc;
-    let channel = before.channel;
-    let mut eight = [0u8; 8];
-    store::copy_in(body, &mut eight, 0);
-    let set = tnc_clock::set_now(tnc, channel, event_number::clock(eight));
+    let set = tnc_clock::set_now(before.tnc, before.channel, event_number::number(body));
     let given = set.answer;
-    let tnc_after = set.tnc;
-    let channel_after = set.channel;
-    answer(set_number(given), 0, tnc_after, channel_after)
+    answer(set_number(given), 0, set.tnc, set.channel)
 }
 
 pub fn end_time(before: EventBox, body: &[u8]) -> Applied
@@ -52,23 +43,17 @@ pub fn end_time(before: EventBox, body: &[u8]) -> Applied
     if body.len() != 4 {
         return refuse(before);
     }
-    let tnc = before.tnc;
-    let channel = before.channel;
-    let mut four = [0u8; 4];
-    store::copy_in(body, &mut four, 0);
-    let set = tnc_clock::set_tx_end_time(tnc, channel, event_number::end_time(four));
+    let set = tnc_clock::set_tx_end_time(before.tnc, before.channel, event_number::number(body));
     let given = set.answer;
-    let tnc_after = set.tnc;
-    let channel_after = set.channel;
-    answer(set_number(given), 0, tnc_after, channel_after)
+    answer(set_number(given), 0, set.tnc, set.channel)
 }
 
 fn set_number(answer: ChannelAnswer) -> u8
     ensures { λ r. ⌜ r ≡ setNumber answer ⌝ }
 {
     match answer {
-        ChannelAnswer::Done => 0,
-        ChannelAnswer::OutOfRange => 6,
-        ChannelAnswer::OutOfBounds => 8,
+        ChannelAnswer::Done => return 0,
+        ChannelAnswer::OutOfRange => return 6,
+        ChannelAnswer::OutOfBounds => return 8,
     }
 }

@@ -10,9 +10,9 @@ pub fn place_after(line: Line, at: usize) -> usize
     ensures { λ r. ⌜ r ≡ placeAfter line at ⌝ }
 {
     match line {
-        Line::Wrote(next) => next,
-        Line::NumberOver9 => at,
-        Line::NoRoom => at,
+        Line::Wrote(next) => return next,
+        Line::NumberOver9 => return at,
+        Line::NoRoom => return at,
     }
 }
 

@@ -1,8 +1,9 @@
 -- Laws of hex and of lines. Assumes nothing.
 use Prim.Native.Nat.{ℕ, suc, _+_, _-_, _*_, _/_, _%_, _<_, _≤_}
-use mathlib.Core.Bool.{Bool}
+use mathlib.Core.Bool.{Bool, true, false}
 use mathlib.Core.Path.{_≡_, refl, sym, ap, _∙_}
 use mathlib.Core.List.{List, [], _∷_, _++_}
+use mir.Val.{boolByte}
 use native.Mathlib.Numerals.{add-one}
 use native.Mathlib.Omega.{arith}
 use borrow.Author.Tests.{le-leb, lt-leb, ne-eqb}
@@ -29,16 +30,15 @@ hex-done s i h = rw (drop-of-length-le s h)
 
 -- ---- a line in stores
 
--- six stores in a row, and a run after them
-six-then : (d : List ℕ) (at a b e n g f : ℕ) (t : List ℕ) → sets (set (set (set (set (set (set d at a) (at + 1) b) (at + 2) e) (at + 3) n) (at + 4) g) (at + 5) f) (at + 6) t ≡ sets d at (a ∷ b ∷ e ∷ n ∷ g ∷ f ∷ t)
-six-then d at a b e n g f t =
-    let p1 : at + 1 ≡ suc at = omega arith in
-    let p2 : at + 2 ≡ suc (suc at) = omega arith in
-    let p3 : at + 3 ≡ suc (suc (suc at)) = omega arith in
-    let p4 : at + 4 ≡ suc (suc (suc (suc at))) = omega arith in
-    let p5 : at + 5 ≡ suc (suc (suc (suc (suc at)))) = omega arith in
-    let p6 : at + 6 ≡ suc (suc (suc (suc (suc (suc at))))) = omega arith in
-    rw (p1, p2, p3, p4, p5, p6)
+-- a bool is 1 or 0 as a number
+pub one-most : (on : Bool) → boolByte on ≤ 1
+one-most true = omega arith
+one-most false = omega arith
+
+pub flag-is : (on : Bool) → 48 + boolByte on ≡ flag on
+unfolding flag pick
+flag-is true = refl
+flag-is false = refl
 
 pub tail-none : (bs : List ℕ) → length bs ≡ 0 → tailOf bs ≡ 10 ∷ []
 unfolding tailOf
@@ -58,19 +58,30 @@ line-is k n ptt bs t a b f ea eb ef et = rw (ea, eb, ef, et)
 both : {p q : ℕ} {u v : List ℕ} → p ≡ q → u ≡ v → _≡_ {A = ℕ × List ℕ} (p, u) (q, v)
 both g k = cc
 
-pub line-none : (d : List ℕ) (at : ℕ) (l : List ℕ) (a b m f : ℕ) → a ∷ b ∷ 32 ∷ m ∷ 32 ∷ f ∷ 10 ∷ [] ≡ l → _≡_ {A = ℕ × List ℕ} (at + 7, set (set (set (set (set (set (set d at a) (at + 1) b) (at + 2) 32) (at + 3) m) (at + 4) 32) (at + 5) f) (at + 6) 10) (stored l at d)
-line-none d at l a b m f e = rw (← e) (ap (λ (x : List ℕ). (at + 7, x)) (six-then d at a b 32 m 32 f (10 ∷ [])))
+-- the six bytes that every line begins with
+abbrev pub front : ℕ → ℕ → ℕ → ℕ → List ℕ
+front a b m f = a ∷ b ∷ 32 ∷ m ∷ 32 ∷ f ∷ []
 
-pub line-some : (d : List ℕ) (at z : ℕ) (l h x : List ℕ) (a b m f : ℕ) → a ∷ b ∷ 32 ∷ m ∷ 32 ∷ f ∷ 32 ∷ (h ++ (10 ∷ [])) ≡ l → _≡_ {A = ℕ × List ℕ} (z, x) (stored h (at + 7) (set (set (set (set (set (set (set d at a) (at + 1) b) (at + 2) 32) (at + 3) m) (at + 4) 32) (at + 5) f) (at + 6) 32)) → _≡_ {A = ℕ × List ℕ} (z + 1, set x z 10) (stored l at d)
-line-some d at z l h x a b m f e w =
+pub line-none : (d e : List ℕ) (at : ℕ) (l : List ℕ) (a b m f : ℕ) → e ≡ sets d at (front a b m f) → a ∷ b ∷ 32 ∷ m ∷ 32 ∷ f ∷ 10 ∷ [] ≡ l → _≡_ {A = ℕ × List ℕ} (at + 7, set e (at + 6) 10) (stored l at d)
+line-none d e at l a b m f q r =
+    let stores : set e (at + 6) 10 ≡ sets d at l = ap (λ (x : List ℕ). set x (at + 6) 10) q ∙ sym (sets-append d at (front a b m f) (10 ∷ [])) ∙ ap (sets d at) r in
+    both (ap (λ (x : List ℕ). at + length x) r) stores
+
+pub line-some : (d e : List ℕ) (at z : ℕ) (l h x : List ℕ) (a b m f : ℕ) → e ≡ sets d at (front a b m f) → a ∷ b ∷ 32 ∷ m ∷ 32 ∷ f ∷ 32 ∷ (h ++ (10 ∷ [])) ≡ l → _≡_ {A = ℕ × List ℕ} (z, x) (stored h (at + 7) (set e (at + 6) 32)) → _≡_ {A = ℕ × List ℕ} (z + 1, set x z 10) (stored l at d)
+line-some d e at z l h x a b m f q r w =
     let p7 : at + 7 ≡ suc (at + 6) = omega arith in
-    let ez : z ≡ at + 7 + length h = ap (λ (q : ℕ × List ℕ). q .0) w in
-    let ex : x ≡ sets (set (set (set (set (set (set (set d at a) (at + 1) b) (at + 2) 32) (at + 3) m) (at + 4) 32) (at + 5) f) (at + 6) 32) (at + 7) h = ap (λ (q : ℕ × List ℕ). q .1) w in
-    let six : List ℕ = set (set (set (set (set (set d at a) (at + 1) b) (at + 2) 32) (at + 3) m) (at + 4) 32) (at + 5) f in
-    let stores : set x z 10 ≡ sets d at (a ∷ b ∷ 32 ∷ m ∷ 32 ∷ f ∷ 32 ∷ (h ++ (10 ∷ []))) =
-    rw (ex, ez) (sym (sets-append (set six (at + 6) 32) (at + 7) h (10 ∷ [])) ∙ rw p7 (six-then d at a b 32 m 32 f (32 ∷ (h ++ (10 ∷ []))))) in
-    let len : z + 1 ≡ at + length (a ∷ b ∷ 32 ∷ m ∷ 32 ∷ f ∷ 32 ∷ (h ++ (10 ∷ []))) = omega (arith, length-append h (10 ∷ [])) in
-    rw (← e) (both len stores)
+    let t : List ℕ = h ++ (10 ∷ []) in
+    let ez : z ≡ at + 7 + length h = ap (λ (u : ℕ × List ℕ). u .0) w in
+    let ex : x ≡ sets (set e (at + 6) 32) (at + 7) h = ap (λ (u : ℕ × List ℕ). u .1) w in
+    let stores : set x z 10 ≡ sets d at l =
+    (λ j. set (ex j) (ez j) 10)
+    ∙ sym (sets-append (set e (at + 6) 32) (at + 7) h (10 ∷ []))
+    ∙ ap (λ (k : ℕ). sets (set e (at + 6) 32) k t) p7
+    ∙ ap (λ (y : List ℕ). sets y (at + 6) (32 ∷ t)) q
+    ∙ sym (sets-append d at (front a b m f) (32 ∷ t))
+    ∙ ap (sets d at) r in
+    let long : z + 1 ≡ at + length (a ∷ b ∷ 32 ∷ m ∷ 32 ∷ f ∷ 32 ∷ (h ++ (10 ∷ []))) = omega (arith, length-append h (10 ∷ [])) in
+    both (long ∙ ap (λ (y : List ℕ). at + length y) r) stores
 
 -- ---- how long a line is
 

@@ -2,7 +2,7 @@
 ghost use mathlib.Core.Path.{_≡_};
 ghost use Prim.Native.Nat.{_+_, _*_, _<_, _≤_};
 ghost use lib.ListN.{length};
-ghost use Rattle.event_line.specs.Line.{hexDigit, flag, hexOf, lineOf, stored, fits, written};
+ghost use Rattle.event_line.specs.Line.{hexDigit, hexOf, stored, fits, written};
 
 pub enum Line {
     // The place behind the line.
@@ -16,8 +16,6 @@ const BLANK: u8 = 0x20;
 const NEWLINE: u8 = 0x0A;
 
 const ZERO: u8 = 0x30;
-
-const ONE: u8 = 0x31;
 
 const LETTER: u8 = 0x41;
 
@@ -34,7 +32,23 @@ pub fn put_line(kind: u8, number: u8, ptt: bool, bytes: &[u8], dst: &mut [u8], a
     if !line_fits(bytes.len(), dst.len() - at) {
         return Line::NoRoom;
     }
-    Line::Wrote(write_line(kind, number, ptt, bytes, dst, at))
+    let head = [
+        hex_digit(kind / 16),
+        hex_digit(kind % 16),
+        BLANK,
+        ZERO + number,
+        BLANK,
+        ZERO + (ptt as u8),
+    ];
+    store::copy_in(&head, dst, at);
+    if bytes.len() == 0 {
+        dst[at + 6] = NEWLINE;
+        return Line::Wrote(at + 7);
+    }
+    dst[at + 6] = BLANK;
+    let end = write_hex(bytes, dst, at + 7);
+    dst[end] = NEWLINE;
+    Line::Wrote(end + 1)
 }
 
 // Without bytes a line has 7, else 8 and two digits for each byte. Divided here, since twice a length may be no number.
@@ -48,32 +62,6 @@ fn line_fits(count: usize, room: usize) -> bool
         return false;
     }
     count <= (room - 8) / 2
-}
-
-fn write_line(kind: u8, number: u8, ptt: bool, bytes: &[u8], dst: &mut [u8], at: usize) -> usize
-    requires { ⌜ (number ≤ 9) × (at + length (lineOf kind number ptt (now bytes)) ≤ length (now dst)) ⌝ }
-    ensures { λ r. ⌜ (r, now (dst .exit)) ≡ stored (lineOf kind number ptt (now (bytes .entry))) at (now (dst .entry)) ⌝ }
-{
-    dst[at] = hex_digit(kind / 16);
-    dst[at + 1] = hex_digit(kind % 16);
-    dst[at + 2] = BLANK;
-    dst[at + 3] = ZERO + number;
-    dst[at + 4] = BLANK;
-    dst[at + 5] = flag_digit(ptt);
-    if bytes.len() == 0 {
-        dst[at + 6] = NEWLINE;
-        return at + 7;
-    }
-    dst[at + 6] = BLANK;
-    let end = write_hex(bytes, dst, at + 7);
-    dst[end] = NEWLINE;
-    end + 1
-}
-
-fn flag_digit(on: bool) -> u8
-    ensures { λ r. ⌜ r ≡ flag on ⌝ }
-{
-    if on { ONE } else { ZERO }
 }
 
 fn hex_digit(nibble: u8) -> u8

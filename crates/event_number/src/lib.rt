@@ -1,32 +1,19 @@
 // The numbers in the bodies of events: high byte first.
 ghost use mathlib.Core.Path.{_≡_};
-ghost use Prim.Native.Nat.{_<_};
-ghost use Rattle.event_number.specs.Numbers.{fourBytes, eightBytes};
+ghost use Rattle.event_number.specs.Numbers.{numberOf};
 
-fn wide(byte: u8) -> u64
-    ensures { λ r. ⌜ (r ≡ byte) × (r < 256) ⌝ }
-{
-    byte as u64
-}
+// What has a place in seven bytes, so that another byte leaves no more than eight.
+const SEVEN_BYTES: u64 = 72057594037927936;
 
-// The body of 03.
-pub fn clock(body: [u8; 8]) -> u64
-    ensures { λ r. ⌜ r ≡ eightBytes body 0 ⌝ }
+// Of more than eight bytes the last eight count.
+pub fn number(bytes: &[u8]) -> u64
+    ensures { λ r. ⌜ r ≡ numberOf (now (bytes .entry)) ⌝ }
 {
-    let high = wide(body[0]) * 16777216
-        + wide(body[1]) * 65536
-        + wide(body[2]) * 256
-        + wide(body[3]);
-    let low = wide(body[4]) * 16777216
-        + wide(body[5]) * 65536
-        + wide(body[6]) * 256
-        + wide(body[7]);
-    high * 4294967296 + low
-}
-
-// The body of 04.
-pub fn end_time(body: [u8; 4]) -> u64
-    ensures { λ r. ⌜ r ≡ fourBytes body 0 ⌝ }
-{
-    wide(body[0]) * 16777216 + wide(body[1]) * 65536 + wide(body[2]) * 256 + wide(body[3])
+    let mut n: u64 = 0;
+    let mut i = 0;
+    while i < bytes.len() {
+        n = n % SEVEN_BYTES * 256 + (bytes[i] as u64);
+        i += 1;
+    }
+    n
 }

@@ -1,7 +1,7 @@
 // The body of event 07 and the stream frame that it stands for. The modulator's stream frames are printed in the same layout.
 use protocol::StreamFrame;
 ghost use mathlib.Core.Path.{_≡_};
-ghost use Rattle.streams.specs.Layout.{endByte, bytesOf, frameOf};
+ghost use Rattle.streams.specs.Layout.{bytesOf, frameOf};
 
 // The body of 07: LICH index, its part, the number, whether it is the last, the data.
 pub fn stream_frame(body: [u8; 25]) -> StreamFrame
@@ -25,19 +25,14 @@ pub fn stream_body(frame: StreamFrame) -> [u8; 25]
 {
     let lich = frame.lich_part;
     let number = frame.frame_number;
+    let end = frame.end_of_stream;
     let voice = frame.stream_data;
     let mut body = [0u8; 25];
     body[0] = frame.lich_idx;
     store::copy_in(&lich, &mut body, 1);
     body[6] = (number / 256) as u8;
     body[7] = (number % 256) as u8;
-    body[8] = end_byte(frame.end_of_stream);
+    body[8] = end as u8;
     store::copy_in(&voice, &mut body, 9);
     body
-}
-
-fn end_byte(end: bool) -> u8
-    ensures { λ r. ⌜ r ≡ endByte end ⌝ }
-{
-    if end { 1 } else { 0 }
 }

@@ -4,4 +4,4 @@ use Rattle.event_answer.proofs.refuse.Statement.{statement}
 use Rattle.event_answer.proofs.refuse.Tie as tie
 
 pub refuse-spec : {M : Type 1} → statement M
-refuse-spec = tie.close (tie.spec (λ c κs. search needs) (λ c. search needs))
+refuse-spec = tie.close (tie.spec (λ c κs. search needs) (λ c. c .answer .ensures))

@@ -12,8 +12,8 @@ returns c = pick-no _ (ne-eqb (length (c .before .before .before .args .body .no
 
 returns-2 : tie.Need-returns-2
 returns-2 c =
-    let w = c .before .before .before .set-data-carrier-detect in
-    pick-yes _ (eq-eqb (length (c .before .before .before .before .before .before .before .before .before .args .body .now)) 1 (c .before .before .before .before .before .before .before .if1 .left)) (set-is (c .before .before .before .before .before .before .before .before .before .args .before .tnc) (w .result) (c .answer .ensures) (c .before .set-number .ensures) (w .ensures))
+    let a = c .before .before .before .before .before .before .args in let w = c .before .before .set-data-carrier-detect in
+    pick-yes _ (eq-eqb (length (a .body .now)) 1 (c .before .before .before .before .if1 .left)) (set-is (a .before .tnc) (w .result) (c .answer .ensures) (c .before .set-number .ensures) (w .ensures))
 
 pub carrier-spec : {M : Type 1} → statement M
 carrier-spec =
