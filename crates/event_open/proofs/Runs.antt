@@ -1,15 +1,16 @@
 -- One event of a run, and where a run ends. Assumes nothing.
 use Prim.Native.Nat.{ℕ, suc, _+_, _-_, _≤_, _<_}
-use mathlib.Core.Bool.{Bool, true, false}
+use mathlib.Core.Bool.{Bool, true, false, _&&_}
 use mathlib.Core.Path.{_≡_, refl, sym, ap, _∙_, subst}
 use mathlib.Core.List.{List, [], _∷_}
 use native.Mathlib.Numerals.{add-one}
 use native.Mathlib.Omega.{arith}
 use borrow.Author.Tests.{leb-true, ltb-true}
-use lib.Dec.{leb}
+use lib.Dec.{leb, ltb, eqb}
 use lib.ListN.{length, drop, getD, set, length-drop}
 use lib.Seq.{sets, length-sets, drop-cons}
 use Rattle.choice.specs.Pick.{pick, pick-all, and, pick-yes, pick-no, and-fst, and-snd}
+use Rattle.kiss_layout.specs.Scan.{notFend}
 use Rattle.event_input.specs.Events.{HOST}
 use Rattle.event_line.specs.declared.Line.{Line}
 use Rattle.event_line.specs.Line.{lineOf, written}
@@ -43,6 +44,17 @@ module _ (s : List ℕ) (i : ℕ) (h : i + 2 ≤ length s) (d : List ℕ) (n : �
       → keptRun (drop (i + 2) s) (i + 2) (sets d n (lineOf HOST 0 on [])) (n + 7) (set r f (getD s (i + 1) 0)) (f + 1) on ≡ keptRun (drop i s) i d n r f on
   unfolding keptRun pick
   run-keeps e = rw (two, e)
+
+-- the test of an event as the code makes it
+pub as-kept : (k b room place : ℕ) → (((eqb k HOST && notFend b) && leb LINE room) && ltb 0 place) ≡ keeps k b room place
+unfolding keeps and
+as-kept k b room place = by (eqb k HOST) (notFend b) (leb LINE room)
+  where
+    by : (x y z : Bool) → (((x && y) && z) && ltb 0 place) ≡ and x (and y (and z (ltb 0 place)))
+    by true true true = refl
+    by true true false = refl
+    by true false z = refl
+    by false y z = refl
 
 -- where an event is kept there is room for its line, and place for its byte
 pub kept-room : (k b room place : ℕ) → keeps k b room place ≡ true → (LINE ≤ room) × (1 ≤ place)

@@ -7,7 +7,7 @@ ghost use Prim.Native.Nat.{_≤_};
 ghost use lib.Dec.{leb};
 ghost use lib.ListN.{length, drop};
 ghost use Rattle.choice.specs.Pick.{and};
-ghost use Rattle.event_open.specs.Inside.{isOpen, begins, keeps, keptRun, openRun};
+ghost use Rattle.event_open.specs.Inside.{isOpen, begins, keptRun, openRun};
 
 // The kind of an event that brings a byte from the host.
 const HOST: u8 = 1;
@@ -126,7 +126,11 @@ fn keep_bytes(
     let mut n = filled;
     while 2 <= src.len() - i {
         let b = src[i + 1];
-        if !is_kept(src[i], b, dst.len() - j, reader.len() - n) {
+        // with room for a longest line, and place for the byte
+        if !((src[i] == HOST)
+            & (b != FEND)
+            & (LINE_LEN <= dst.len() - j)
+            & (0 < reader.len() - n)) {
             break;
         }
         reader[n] = b;
@@ -140,20 +144,4 @@ fn keep_bytes(
         wrote: j,
         filled: n,
     }
-}
-
-// There is place for the byte, and for a longest line.
-fn is_kept(kind: u8, b: u8, room: usize, place: usize) -> bool
-    ensures { λ r. ⌜ r ≡ keeps kind b room place ⌝ }
-{
-    if kind != HOST {
-        return false;
-    }
-    if b == FEND {
-        return false;
-    }
-    if room < LINE_LEN {
-        return false;
-    }
-    0 < place
 }
