@@ -9,5 +9,5 @@ use Rattle.event_answer.specs.declared.Applied.{Applied}
 use Rattle.event_answer.specs.Answer.{answered}
 use Rattle.event_air.specs.Air.{ofHeard}
 
-pub heard-is : (c : Channel) (h : TncHeard) (a b : List ℕ) {n : ℕ} {r : Applied} {q : TncHeard × List ℕ × List ℕ} → r ≡ answered n 0 (h .tnc) c → n ≡ airNumber (h .answer) → (h, a, b) ≡ q → (r, a, b) ≡ ofHeard c q
-heard-is c h a b e f g = (λ j. (e j, a, b)) ∙ (λ j. (answered (f j) 0 (h .tnc) c, a, b)) ∙ ap (ofHeard c) g
+pub heard-is : (c : Channel) (h : TncHeard) (a b : List ℕ) {r : Applied} {q : TncHeard × List ℕ × List ℕ} → r ≡ answered (airNumber (h .answer)) 0 (h .tnc) c → (h, a, b) ≡ q → (r, a, b) ≡ ofHeard c q
+heard-is c h a b e g = (λ j. (e j, a, b)) ∙ ap (ofHeard c) g

@@ -5,6 +5,7 @@ use event_answer::answer;
 use event_answer::refuse;
 use protocol::LsfFrame;
 use radio::AirAnswer;
+use tnc_heard::TncHeard;
 ghost use mathlib.Core.Path.{_≡_};
 ghost use lib.Dec.{eqb};
 ghost use lib.ListN.{length};
@@ -16,7 +17,7 @@ ghost use Rattle.air_lsf.specs.Begun.{lsfHeard};
 ghost use Rattle.tnc_stream.specs.Stream.{streamHeard};
 ghost use Rattle.tnc_heard.specs.Calls.{airHeard};
 ghost use Rattle.event_packet.specs.Packet.{packetOf};
-ghost use Rattle.event_answer.specs.Answer.{refused};
+ghost use Rattle.event_answer.specs.Answer.{answered, refused};
 ghost use Rattle.event_air.specs.Air.{ofHeard};
 
 pub fn lsf(before: EventBox, body: &[u8], rx: &mut [u8], message: &mut [u8]) -> Applied
@@ -26,13 +27,10 @@ pub fn lsf(before: EventBox, body: &[u8], rx: &mut [u8], message: &mut [u8]) -> 
         return refuse(before);
     }
     let tnc = before.tnc;
-    let channel = before.channel;
     let mut thirty = [0u8; 30];
     store::copy_in(body, &mut thirty, 0);
     let heard = receive_lsf::handle_lsf(tnc, LsfFrame(thirty), rx, message);
-    let given = heard.answer;
-    let tnc_after = heard.tnc;
-    answer(air_number(given), 0, tnc_after, channel)
+    told(before, heard)
 }
 
 pub fn packet(before: EventBox, body: &[u8], rx: &mut [u8], message: &mut [u8]) -> Applied
@@ -42,13 +40,10 @@ pub fn packet(before: EventBox, body: &[u8], rx: &mut [u8], message: &mut [u8]) 
         return refuse(before);
     }
     let tnc = before.tnc;
-    let channel = before.channel;
     let mut all = [0u8; 26];
     store::copy_in(body, &mut all, 0);
     let heard = receive_packet::handle_packet(tnc, event_packet::packet_frame(all), rx, message);
-    let given = heard.answer;
-    let tnc_after = heard.tnc;
-    answer(air_number(given), 0, tnc_after, channel)
+    told(before, heard)
 }
 
 pub fn stream(before: EventBox, body: &[u8], rx: &mut [u8], message: &mut [u8]) -> Applied
@@ -58,22 +53,23 @@ pub fn stream(before: EventBox, body: &[u8], rx: &mut [u8], message: &mut [u8]) 
         return refuse(before);
     }
     let tnc = before.tnc;
-    let channel = before.channel;
     let mut all = [0u8; 25];
     store::copy_in(body, &mut all, 0);
     let heard = receive_stream::handle_stream(tnc, event_stream::stream_frame(all), rx, message);
-    let given = heard.answer;
-    let tnc_after = heard.tnc;
-    answer(air_number(given), 0, tnc_after, channel)
+    told(before, heard)
 }
 
-fn air_number(answer: AirAnswer) -> u8
-    ensures { λ r. ⌜ r ≡ airNumber answer ⌝ }
+// A frame from the air prints no bytes, and leaves the channel as it was.
+fn told(before: EventBox, heard: TncHeard) -> Applied
+    ensures { λ r. ⌜ r ≡ answered (airNumber (heard .answer)) 0 (heard .tnc) (before .channel) ⌝ }
 {
-    match answer {
-        AirAnswer::Done => 0,
-        AirAnswer::OutOfRange => 6,
-        AirAnswer::WrongStore => 7,
-        AirAnswer::OutOfBounds => 8,
+    let tnc = heard.tnc;
+    let channel = before.channel;
+    let given = heard.answer;
+    match given {
+        AirAnswer::Done => return answer(0, 0, tnc, channel),
+        AirAnswer::OutOfRange => return answer(6, 0, tnc, channel),
+        AirAnswer::WrongStore => return answer(7, 0, tnc, channel),
+        AirAnswer::OutOfBounds => return answer(8, 0, tnc, channel),
     }
 }

@@ -1,5 +1,5 @@
 -- The tests on the way to a run, and what an open frame is. Assumes nothing.
-use Prim.Native.Nat.{ℕ, suc, _+_, _≤_}
+use Prim.Native.Nat.{ℕ, zero, suc, _+_, _-_, _≤_}
 use mathlib.Core.Bool.{Bool, true, false, not, false≢true}
 use mathlib.Core.Path.{_≡_, refl, ap}
 use mathlib.Core.Option.{none, Option·map}
@@ -7,7 +7,8 @@ use mathlib.Core.List.{List, [], _∷_, _++_}
 use native.Mathlib.Omega.{arith}
 use borrow.Author.Tests.{eq-eqb, ne-eqb, eqb-true}
 use lib.Dec.{eqb}
-use lib.ListN.{length, drop, getD}
+use lib.ListN.{length, take, drop, getD}
+use lib.Seq.{length-take-le}
 use Rattle.choice.specs.Pick.{pick, and-fst, and-snd, and-both, and-no, and-go}
 use Rattle.kiss_layout.specs.Escape.{FEND}
 use Rattle.kiss_layout.specs.Scan.{isFend, notFend, afterFends, runOf}
@@ -23,20 +24,21 @@ use Rattle.event_open.specs.Inside.{opened}
 
 -- ---- the code's tests
 
-pub none-held : (h : List ℕ) → length h ≡ 0 → false ≡ opened h
+pub none-held : (h : List ℕ) (n : ℕ) → n ≡ 0 → false ≡ opened (take n h)
 unfolding opened
-none-held [] e = refl
-none-held (b ∷ h) e = absurd (omega arith)
+none-held h n e = rw e
 
-pub not-begun : (h : List ℕ) → (getD h 0 0 ≡ FEND → ⊥) → false ≡ opened h
+pub not-begun : (h : List ℕ) (n : ℕ) → (getD h 0 0 ≡ FEND → ⊥) → false ≡ opened (take n h)
 unfolding opened
-not-begun [] f = refl
-not-begun (b ∷ h) f = and-no _ (ne-eqb b FEND f)
+not-begun h zero f = refl
+not-begun [] (suc n) f = refl
+not-begun (b ∷ h) (suc n) f = and-no _ (ne-eqb b FEND f)
 
-pub as-scanned : (h : List ℕ) → (length h ≡ 0 → ⊥) → getD h 0 0 ≡ FEND → (n m : ℕ) → n ≡ runOf notFend (drop 1 h) → m ≡ length (drop 1 h) → eqb n m ≡ opened h
+pub as-scanned : (h : List ℕ) (n : ℕ) → (n ≡ 0 → ⊥) → n ≤ length h → getD h 0 0 ≡ FEND → (m : ℕ) → m ≡ runOf notFend (take (n - 1) (drop 1 h)) → eqb m (n - 1) ≡ opened (take n h)
 unfolding opened
-as-scanned [] f e n m q k = absurd (f refl)
-as-scanned (b ∷ h) f e n m q k = and-go (eq-eqb b FEND e) (rw (q, k))
+as-scanned h zero f l e m q = absurd (f refl)
+as-scanned [] (suc n) f l e m q = absurd (omega arith)
+as-scanned (b ∷ h) (suc n) f l e m q = let p : suc n - 1 ≡ n = omega arith in and-go (eq-eqb b FEND e) (rw (q, p, length-take-le n h (omega arith)))
 
 -- the bytes that count stand in the store
 pub held-within : (t : Tnc) (p q : ℕ) (reader : List ℕ) → linkFits (length reader) p q ≡ true → soundTnc t ≡ true → t .buffer .filled ≤ length reader

@@ -1,15 +1,16 @@
 -- One event of a run, and where a run ends. Assumes nothing.
 use Prim.Native.Nat.{ℕ, suc, _+_, _-_, _≤_, _<_}
-use mathlib.Core.Bool.{Bool, true, false}
+use mathlib.Core.Bool.{Bool, true, false, _&&_}
 use mathlib.Core.Path.{_≡_, refl, sym, ap, _∙_, subst}
 use mathlib.Core.List.{List, [], _∷_}
 use native.Mathlib.Numerals.{add-one}
 use native.Mathlib.Omega.{arith}
-use borrow.Author.Tests.{le-leb, leb-true, ltb-true}
-use lib.Dec.{leb}
+use borrow.Author.Tests.{leb-true, ltb-true}
+use lib.Dec.{leb, ltb, eqb}
 use lib.ListN.{length, drop, getD, set, length-drop}
 use lib.Seq.{sets, length-sets, drop-cons}
-use Rattle.choice.specs.Pick.{pick, pick-all, and, pick-yes, pick-no, and-fst, and-snd, and-both}
+use Rattle.choice.specs.Pick.{pick, pick-all, and, pick-yes, pick-no, and-fst, and-snd}
+use Rattle.kiss_layout.specs.Scan.{notFend}
 use Rattle.event_input.specs.Events.{HOST}
 use Rattle.event_line.specs.declared.Line.{Line}
 use Rattle.event_line.specs.Line.{lineOf, written}
@@ -44,6 +45,17 @@ module _ (s : List ℕ) (i : ℕ) (h : i + 2 ≤ length s) (d : List ℕ) (n : �
   unfolding keptRun pick
   run-keeps e = rw (two, e)
 
+-- the test of an event as the code makes it
+pub as-kept : (k b room place : ℕ) → (((eqb k HOST && notFend b) && leb LINE room) && ltb 0 place) ≡ keeps k b room place
+unfolding keeps and
+as-kept k b room place = by (eqb k HOST) (notFend b) (leb LINE room)
+  where
+    by : (x y z : Bool) → (((x && y) && z) && ltb 0 place) ≡ and x (and y (and z (ltb 0 place)))
+    by true true true = refl
+    by true true false = refl
+    by true false z = refl
+    by false y z = refl
+
 -- where an event is kept there is room for its line, and place for its byte
 pub kept-room : (k b room place : ℕ) → keeps k b room place ≡ true → (LINE ≤ room) × (1 ≤ place)
 unfolding keeps
@@ -57,25 +69,24 @@ line-put on d x n h e =
 -- ---- the answer of `take_open`
 
 module _ (x : EventBox) (s : List ℕ) (at : ℕ) (d : List ℕ) (n : ℕ) (r : List ℕ) (p q : ℕ) where
-  pub run-no : {y : Opened} → y ≡ stays x at n → false ≡ and (begins s at) (and (leb n (length d)) (isOpen (x .tnc) (x .channel) r p q))
-      → (y, d, r) ≡ openRun x s at d n r p q
+  abbrev may : Bool
+  may = and (begins s at) (and (leb n (length d)) (isOpen (x .tnc) (x .channel) r p q))
+
+  pub run-no : may ≡ false → (stays x at n, d, r) ≡ openRun x s at d n r p q
   unfolding openRun
-  run-no e f = pick-no _ (sym f) (λ t. (e t, d, r))
+  run-no f = pick-no _ f refl
 
-  pub run-yes : {k : Run} {e g : List ℕ} {y : EventBox} → (k, e, g) ≡ keptRun (drop at s) at d n r (x .tnc .buffer .filled) (x .tnc .ptt) → y ≡ filledTo x (k .filled)
-      → begins s at ≡ true → n ≤ length d → isOpen (x .tnc) (x .channel) r p q ≡ true
-      → (record { used = k .used; wrote = k .wrote; after = y }, e, g) ≡ openRun x s at d n r p q
+  pub run-yes : {k : Run} {e g : List ℕ} → (k, e, g) ≡ keptRun (drop at s) at d n r (x .tnc .buffer .filled) (x .tnc .ptt)
+      → may ≡ true → (record { used = k .used; wrote = k .wrote; after = filledTo x (k .filled) }, e, g) ≡ openRun x s at d n r p q
   unfolding openRun
-  run-yes {k} {e} {g} {y} f h a b c =
-      pick-yes _ (and-both a (and-both (le-leb n (length d) b) c)) ((λ t. (record { used = k .used; wrote = k .wrote; after = h t }, e, g)) ∙ ap (ranTo x) f)
+  run-yes f c = pick-yes _ c (ap (ranTo x) f)
 
-  pub begins-within : begins s at ≡ true → at ≤ length s
-  unfolding begins
-  begins-within e = let h : at < length s = ltb-true at (length s) (and-fst _ _ e) in omega arith
-
-  pub open-within : isOpen (x .tnc) (x .channel) r p q ≡ true → x .tnc .buffer .filled ≤ length r
-  unfolding isOpen
-  open-within e = held-within (x .tnc) p q r (and-fst _ _ e) (and-fst _ _ (and-snd _ _ e))
+  pub within : may ≡ true → (at ≤ length s) × (n ≤ length d) × (x .tnc .buffer .filled ≤ length r)
+  unfolding begins isOpen
+  within e =
+      let h : at < length s = ltb-true at (length s) (and-fst _ _ (and-fst _ _ e)) in
+      let o = and-snd _ _ (and-snd _ _ e) in
+      (omega arith, leb-true _ _ (and-fst _ _ (and-snd _ _ e)), held-within (x .tnc) p q r (and-fst _ _ o) (and-fst _ _ (and-snd _ _ o)))
 
 -- ---- how far a run goes
 

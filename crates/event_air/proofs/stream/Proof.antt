@@ -19,12 +19,12 @@ returns c = let a = c .before .before .before .before .before .args in pick-no _
 
 returns-2 : tie.Need-returns-2
 returns-2 c =
-    let a = c .before .before .before .before .before .before .before .before .before .before .before .before .before .before .before .before .before .before .before .before .args in let w = c .before .before .before .before .before .before .before .handle-stream in
-    let same : c .before .before .before .before .before .before .before .before .before .before .before .before .copy-in .last .1 .0 ≡ a .body .now = whole-copy (a .body .now) (replicate 25 0) (omega (arith, c .before .before .before .before .before .before .before .before .before .before .before .before .before .before .before .before .if1 .left)) (c .before .before .before .before .before .before .before .before .before .before .before .before .copy-in .ensures) in
-    pick-yes _ (eq-eqb (length (a .body .now)) 25 (c .before .before .before .before .before .before .before .before .before .before .before .before .before .before .before .before .if1 .left))
-    (heard-is (a .before .channel) (w .result) (w .last .1 .1 .0) (w .last .1 .1 .1 .0) (c .answer .ensures) (c .before .air-number .ensures)
+    let a = c .before .before .before .before .before .before .before .before .before .before .before .before .before .before .before .before .before .args in let w = c .before .before .before .before .before .handle-stream in
+    let same : c .before .before .before .before .before .before .before .before .before .before .copy-in .last .1 .0 ≡ a .body .now = whole-copy (a .body .now) (replicate 25 0) (omega (arith, c .before .before .before .before .before .before .before .before .before .before .before .before .before .if1 .left)) (c .before .before .before .before .before .before .before .before .before .before .copy-in .ensures) in
+    pick-yes _ (eq-eqb (length (a .body .now)) 25 (c .before .before .before .before .before .before .before .before .before .before .before .before .before .if1 .left))
+    (heard-is (a .before .channel) (w .result) (w .last .1 .1 .0) (w .last .1 .1 .1 .0) (c .told .ensures)
     (w .ensures
-    ∙ ap (λ (f : StreamFrame). airHeard (a .before .tnc) (a .rx .now) (a .message .now) (streamHeard (a .before .tnc .radio) f (a .rx .now) (a .message .now))) (c .before .before .before .before .before .before .before .before .before .before .stream-frame .ensures ∙ ap frameOf same)))
+    ∙ ap (λ (f : StreamFrame). airHeard (a .before .tnc) (a .rx .now) (a .message .now) (streamHeard (a .before .tnc .radio) f (a .rx .now) (a .message .now))) (c .before .before .before .before .before .before .before .before .stream-frame .ensures ∙ ap frameOf same)))
 
 pub stream-spec : {M : Type 1} → statement M
 stream-spec =
@@ -37,7 +37,6 @@ stream-spec =
     (λ c κs. search needs)
     (λ c κs. search needs)
     (λ c κs. search needs)
-    (λ c κs. search needs)
-    (λ c. search needs)
-    (λ c. search needs)
+    (λ c. c .before .before .before .before .before .handle-stream .kept .1 .1 .0)
+    (λ c. c .before .before .before .before .before .handle-stream .kept .1 .1 .1 .0)
     returns-2)
