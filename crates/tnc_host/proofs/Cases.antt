@@ -20,20 +20,19 @@ use Rattle.host_record.specs.Host.{soundHost}
 use Rattle.host_frame.specs.Promises.{Box as HostBox}
 use Rattle.link_ready.specs.Ready.{linkFits, wasTaken}
 use Rattle.link_ready.proofs.Stores.{unfit}
-use Rattle.tnc_host.specs.declared.KissWritten.{KissWritten}
 use Rattle.tnc_drain.specs.Drain.{readerBox, hostBox}
 use Rattle.tnc_host.specs.Bytes.{refused, onward, offered, kissWritten}
 
 module _ (b : KissBuffer) (h : Host) (buf reader packets streams : List ℕ) where
-  pub stores-wrong : {x : KissWritten} → x ≡ refused WrongStore b h → linkFits (length reader) (length packets) (length streams) ≡ false
-      → (x, reader, packets, streams) ≡ kissWritten b h buf reader packets streams
+  pub stores-wrong : linkFits (length reader) (length packets) (length streams) ≡ false
+      → (refused WrongStore b h, reader, packets, streams) ≡ kissWritten b h buf reader packets streams
   unfolding kissWritten
-  stores-wrong e n = unfit (length reader) (length packets) (length streams) _ n (λ t. (e t, reader, packets, streams))
+  stores-wrong n = unfit (length reader) (length packets) (length streams) _ n refl
 
   module _ (r : length reader ≡ READER) (p : length packets ≡ PACKETS) (q : length streams ≡ STREAMS) where
-    pub unsound : {x : KissWritten} → x ≡ refused OutOfBounds b h → soundHost h ≡ false → (x, reader, packets, streams) ≡ kissWritten b h buf reader packets streams
+    pub unsound : soundHost h ≡ false → (refused OutOfBounds b h, reader, packets, streams) ≡ kissWritten b h buf reader packets streams
     unfolding kissWritten pick
-    unsound e s = rw (eq-eqb (length reader) READER r, eq-eqb (length packets) PACKETS p, eq-eqb (length streams) STREAMS q, s) (λ t. (e t, reader, packets, streams))
+    unsound s = rw (eq-eqb (length reader) READER r, eq-eqb (length packets) PACKETS p, eq-eqb (length streams) STREAMS q, s)
 
     -- once the reader has answered
     pub went : soundHost h ≡ true → (a : WriteAnswer) (w : Written) (last : List ℕ) → (w, last) ≡ written b buf reader → w .answer ≡ a

@@ -6,22 +6,25 @@ use mathlib.Core.List.{List}
 use borrow.Author.Needs.{needs}
 use borrow.Author.Tests.{not-true, not-false}
 use Rattle.kiss_calls.specs.declared.NextFrame.{NextFrame}
+use Rattle.kiss_calls.specs.declared.WriteAnswer.the-variants.{Done}
 use Rattle.kiss_calls.specs.Calls.{frameIn}
 use Rattle.kiss_calls.specs.Promises.{Box as ReaderBox, afterNextFrame, Sound}
 use Rattle.host_frame.specs.Promises.{Box as HostBox, leftBy, after, Sound as HostSound}
 use Rattle.host_frame.proofs.Kept as host
+use Rattle.tnc_drain.specs.declared.Drained.{Drained}
 use Rattle.tnc_drain.specs.Drain.{readerBox, hostBox, drained}
 use Rattle.tnc_drain.proofs.Drains.{searched, then-sound, then-shorter, then-ends, then-goes-on}
+use Rattle.tnc_host.specs.declared.KissWritten.{KissWritten}
 use Rattle.tnc_host.proofs.take_frames.Statement.{statement}
 use Rattle.tnc_host.proofs.take_frames.Tie as tie
 
 abbrev Inv-loop : tie.InvT-loop
-Inv-loop reader₀ packets₀ streams₀ held₀ obeyed₀ reader packets streams held obeyed =
+Inv-loop count reader₀ packets₀ streams₀ held₀ obeyed₀ reader packets streams held obeyed =
     (drained (readerBox held₀ reader₀) (hostBox obeyed₀ packets₀ streams₀) ≡ drained (readerBox held reader) (hostBox obeyed packets streams))
     × Sound (readerBox held reader) × HostSound (hostBox obeyed packets streams)
 
 abbrev μ-loop : tie.MeasureT-loop
-μ-loop reader₀ packets₀ streams₀ held₀ obeyed₀ reader packets streams held obeyed = searched (readerBox held reader)
+μ-loop count reader₀ packets₀ streams₀ held₀ obeyed₀ reader packets streams held obeyed = searched (readerBox held reader)
 
 loop-holds : tie.Need-loop-holds Inv-loop μ-loop
 loop-holds c = let p = c .before .before .before .pre in (refl, p .0, p .1)
@@ -45,13 +48,15 @@ module _ (k : tie.After-next-frame Inv-loop μ-loop) where
 
 returns : tie.Need-returns Inv-loop μ-loop
 returns c =
-    let k = c .before .before .before .before .before in
-    then-ends (x k) (y k) (came k) (l k .loop .inv .1) (w k) (not-true _ (c .if1 .taken)) ∙ sym (l k .loop .inv .0)
+    let k = c .before .before .before .before in
+    ap {B = KissWritten × List ℕ × List ℕ × List ℕ}
+    (λ (p : Drained × List ℕ × List ℕ × List ℕ). (record { answer = Done; count = l k .before .before .before .before .args .count; buffer = p .0 .buffer; host = p .0 .host }, p .1, p .2, p .3))
+    (then-ends (x k) (y k) (came k) (l k .loop .inv .1) (w k) (not-true _ (c .if1 .taken)) ∙ sym (l k .loop .inv .0))
 
 -- once the frame was obeyed
 module _ (o : tie.After-take-frame Inv-loop μ-loop) where
   abbrev k : tie.After-next-frame Inv-loop μ-loop
-  k = o .before .before .before .before .before .before .before .before .before .before
+  k = o .before .before .before .before .before .before .before .before .before
 
   was-taken : y k .buffer .taken ≡ true
   was-taken = not-false _ (o .before .before .before .before .before .if1 .left)
@@ -76,7 +81,7 @@ loop-again c =
 -- the stores keep their lengths
 module _ (c : tie.Then1 Inv-loop μ-loop) where
   abbrev n : tie.After-next-frame Inv-loop μ-loop
-  n = c .before .before .before .before .before
+  n = c .before .before .before .before
 
   abbrev start : tie.Start Inv-loop μ-loop
   start = l n .before .before .before .before
@@ -98,11 +103,11 @@ take-frames-spec =
     μ-loop
     loop-holds
     (λ c κs. search needs)
-    (λ c κs. search needs)
-    (λ c κs. search needs)
-    loop-less
-    loop-again
     same-reader
     same-packets
     same-streams
-    returns)
+    returns
+    (λ c κs. search needs)
+    (λ c κs. search needs)
+    loop-less
+    loop-again)

@@ -16,10 +16,8 @@ use Rattle.packets.specs.Queue.{STORE as PACKETS}
 use Rattle.streams.specs.Queue.{STORE as STREAMS}
 use Rattle.host_record.specs.Host.{soundHost}
 use Rattle.host_frame.specs.Promises.{Sound as HostSound}
-use Rattle.tnc_host.specs.declared.KissWritten.{KissWritten}
 use Rattle.link_ready.specs.Ready.{linkFits}
 use Rattle.link_ready.proofs.Stores.{reader-fits, packets-fit, streams-fit, taken-done}
-use Rattle.tnc_drain.specs.declared.Drained.{Drained}
 use Rattle.tnc_drain.specs.Drain.{readerBox, hostBox}
 use Rattle.tnc_host.specs.Bytes.{onward, kissWritten}
 use Rattle.tnc_host.proofs.Cases.{stores-wrong, unsound, went, not-onward}
@@ -33,8 +31,8 @@ module _ (k : tie.After-link-fits) where
 
 returns : tie.Need-returns
 returns c =
-    let i = c .before in let k = i .before in let a = start k .args in
-    stores-wrong (a .buffer) (a .host) (a .buf .now) (a .reader .now) (a .packets .now) (a .streams .now) (c .refuse .ensures) (not-no (k .link-fits .ensures) (i .if1 .taken))
+    let k = c .before in let a = start k .args in
+    stores-wrong (a .buffer) (a .host) (a .buf .now) (a .reader .now) (a .packets .now) (a .streams .now) (not-no (k .link-fits .ensures) (c .if1 .taken))
 
 -- past the lengths
 module _ (s : tie.After-is-sound) where
@@ -55,9 +53,9 @@ module _ (s : tie.After-is-sound) where
 
 returns-2 : tie.Need-returns-2
 returns-2 c =
-    let i = c .before in let s = i .before in let a = start (lengths s) .args in
+    let s = c .before in let a = start (lengths s) .args in
     unsound (a .buffer) (a .host) (a .buf .now) (a .reader .now) (a .packets .now) (a .streams .now) (its-reader s) (its-packets s) (its-streams s)
-    (c .refuse2 .ensures) (not-no (s .is-sound .ensures) (i .if2 .taken))
+    (not-no (s .is-sound .ensures) (c .if2 .taken))
 
 -- once the reader has answered
 module _ (w : tie.After-write) where
@@ -83,10 +81,9 @@ module _ (w : tie.After-write) where
 
 returns-3 : tie.Need-returns-3
 returns-3 c =
-    let i = c .before in let t = i .before in let w = t .before .before .before .before in let s = asked w .args in
-    (λ j. (c .refuse3 .ensures j, last w, s .packets .now, s .streams .now))
-    ∙ not-onward (w .write .result .answer) (w .write .result .count) (readerBox (w .write .result .buffer) (last w)) (hostBox (s .host) (s .packets .now) (s .streams .now))
-    (not-no (t .was-taken .ensures) (i .if3 .taken))
+    let t = c .before in let w = t .before .before .before .before in let s = asked w .args in
+    not-onward (w .write .result .answer) (w .write .result .count) (readerBox (w .write .result .buffer) (last w)) (hostBox (s .host) (s .packets .now) (s .streams .now))
+    (not-no (t .was-taken .ensures) (c .if3 .taken))
     ∙ by-answer w _ refl
 
 -- where it took them
@@ -111,24 +108,16 @@ take-frames-requires : tie.Need-take-frames-requires
 take-frames-requires c κs = let i = c .before .before .before in (still-sound i, host-sound i)
 
 returns-4 : tie.Need-returns-4
-returns-4 c =
-    let d = c .before .before .before .before .before .before .before .before in let i = d .before .before .before .before in let w = took i in
-    ap {B = KissWritten × List ℕ × List ℕ × List ℕ}
-    (λ (p : Drained × List ℕ × List ℕ × List ℕ). (record { answer = Done; count = w .write .result .count; buffer = p .0 .buffer; host = p .0 .host }, p .1, p .2, p .3))
-    (d .take-frames .ensures)
-    ∙ by-answer w Done (done i)
+returns-4 c = let d = c .before .before .before .before .before .before in let i = d .before .before .before .before in d .take-frames .ensures ∙ by-answer (took i) Done (done i)
 
 pub write-kiss-spec : {M : Type 1} → statement M
 write-kiss-spec =
     tie.close
     (tie.spec
     (λ c κs. search needs)
-    (λ c κs. search needs)
     returns
     (λ c κs. search needs)
-    (λ c κs. search needs)
     returns-2
-    (λ c κs. search needs)
     (λ c κs. search needs)
     (λ c κs. search needs)
     (λ c. search needs)
