@@ -31,6 +31,7 @@ savedOf b =
       channel = b .channel;
     }
 
+-- the TNC and its channel, of their parts
 abbrev pub boxOf : KissBuffer → Sending → State → Outgoing → Bool → Channel → EventBox
 boxOf buffer sending state outgoing ptt channel =
     record { tnc = record { buffer = buffer; sending = sending; radio = record { state = state; outgoing = outgoing }; ptt = ptt }; channel = channel }
