@@ -50,10 +50,10 @@ unfolding tailOf
 tail-some [] h = absurd (h refl)
 tail-some (b ∷ bs) h = refl
 
--- what stands in a line, whatever its tail is
-pub line-is : (k n : ℕ) (ptt : Bool) (bs t : List ℕ) (a b f : ℕ) → a ≡ hexDigit (k / 16) → b ≡ hexDigit (k % 16) → f ≡ flag ptt → tailOf bs ≡ t → a ∷ b ∷ 32 ∷ (48 + n) ∷ 32 ∷ f ∷ t ≡ lineOf k n ptt bs
+-- what stands in a line
+pub line-is : (k n : ℕ) (ptt : Bool) (bs : List ℕ) (a b f : ℕ) → a ≡ hexDigit (k / 16) → b ≡ hexDigit (k % 16) → f ≡ flag ptt → a ∷ b ∷ 32 ∷ (48 + n) ∷ 32 ∷ f ∷ tailOf bs ≡ lineOf k n ptt bs
 unfolding lineOf hexOf
-line-is k n ptt bs t a b f ea eb ef et = rw (ea, eb, ef, et)
+line-is k n ptt bs a b f ea eb ef = rw (ea, eb, ef)
 
 both : {p q : ℕ} {u v : List ℕ} → p ≡ q → u ≡ v → _≡_ {A = ℕ × List ℕ} (p, u) (q, v)
 both g k = cc
@@ -62,28 +62,35 @@ both g k = cc
 abbrev pub front : ℕ → ℕ → ℕ → ℕ → List ℕ
 front a b m f = a ∷ b ∷ 32 ∷ m ∷ 32 ∷ f ∷ []
 
-pub line-none : (d e : List ℕ) (at : ℕ) (l : List ℕ) (a b m f : ℕ) → e ≡ sets d at (front a b m f) → a ∷ b ∷ 32 ∷ m ∷ 32 ∷ f ∷ 10 ∷ [] ≡ l → _≡_ {A = ℕ × List ℕ} (at + 7, set e (at + 6) 10) (stored l at d)
-line-none d e at l a b m f q r =
-    let stores : set e (at + 6) 10 ≡ sets d at l = ap (λ (x : List ℕ). set x (at + 6) 10) q ∙ sym (sets-append d at (front a b m f) (10 ∷ [])) ∙ ap (sets d at) r in
-    both (ap (λ (x : List ℕ). at + length x) r) stores
+pub line-stored : (d e : List ℕ) (at z : ℕ) (l t x : List ℕ) (a b m f : ℕ) → e ≡ sets d at (front a b m f) → a ∷ b ∷ 32 ∷ m ∷ 32 ∷ f ∷ t ≡ l → _≡_ {A = ℕ × List ℕ} (z, x) (stored t (at + 6) e) → _≡_ {A = ℕ × List ℕ} (z, x) (stored l at d)
+line-stored d e at z l t x a b m f q r w =
+    let ez : z ≡ at + 6 + length t = ap (λ (u : ℕ × List ℕ). u .0) w in
+    let ex : x ≡ sets e (at + 6) t = ap (λ (u : ℕ × List ℕ). u .1) w in
+    let long : z ≡ at + length (a ∷ b ∷ 32 ∷ m ∷ 32 ∷ f ∷ t) = omega arith in
+    both (long ∙ ap (λ (y : List ℕ). at + length y) r) (ex ∙ ap (λ (y : List ℕ). sets y (at + 6) t) q ∙ sym (sets-append d at (front a b m f) t) ∙ ap (sets d at) r)
 
-pub line-some : (d e : List ℕ) (at z : ℕ) (l h x : List ℕ) (a b m f : ℕ) → e ≡ sets d at (front a b m f) → a ∷ b ∷ 32 ∷ m ∷ 32 ∷ f ∷ 32 ∷ (h ++ (10 ∷ [])) ≡ l → _≡_ {A = ℕ × List ℕ} (z, x) (stored h (at + 7) (set e (at + 6) 32)) → _≡_ {A = ℕ × List ℕ} (z + 1, set x z 10) (stored l at d)
-line-some d e at z l h x a b m f q r w =
-    let p7 : at + 7 ≡ suc (at + 6) = omega arith in
-    let t : List ℕ = h ++ (10 ∷ []) in
-    let ez : z ≡ at + 7 + length h = ap (λ (u : ℕ × List ℕ). u .0) w in
-    let ex : x ≡ sets (set e (at + 6) 32) (at + 7) h = ap (λ (u : ℕ × List ℕ). u .1) w in
-    let stores : set x z 10 ≡ sets d at l =
-    (λ j. set (ex j) (ez j) 10)
-    ∙ sym (sets-append (set e (at + 6) 32) (at + 7) h (10 ∷ []))
-    ∙ ap (λ (k : ℕ). sets (set e (at + 6) 32) k t) p7
-    ∙ ap (λ (y : List ℕ). sets y (at + 6) (32 ∷ t)) q
-    ∙ sym (sets-append d at (front a b m f) (32 ∷ t))
-    ∙ ap (sets d at) r in
-    let long : z + 1 ≡ at + length (a ∷ b ∷ 32 ∷ m ∷ 32 ∷ f ∷ 32 ∷ (h ++ (10 ∷ []))) = omega (arith, length-append h (10 ∷ [])) in
-    both (long ∙ ap (λ (y : List ℕ). at + length y) r) stores
+pub tail-stored : (e : List ℕ) (at z : ℕ) (h x : List ℕ) → _≡_ {A = ℕ × List ℕ} (z, x) (stored h (at + 1) (set e at 32)) → _≡_ {A = ℕ × List ℕ} (z + 1, set x z 10) (stored (32 ∷ (h ++ (10 ∷ []))) at e)
+tail-stored e at z h x w =
+    let p1 : at + 1 ≡ suc at = omega arith in
+    let ez : z ≡ at + 1 + length h = ap (λ (u : ℕ × List ℕ). u .0) w in
+    let ex : x ≡ sets (set e at 32) (at + 1) h = ap (λ (u : ℕ × List ℕ). u .1) w in
+    let stores : set x z 10 ≡ sets e at (32 ∷ (h ++ (10 ∷ []))) =
+    (λ j. set (ex j) (ez j) 10) ∙ sym (sets-append (set e at 32) (at + 1) h (10 ∷ [])) ∙ ap (λ (k : ℕ). sets (set e at 32) k (h ++ (10 ∷ []))) p1 in
+    let long : z + 1 ≡ at + length (32 ∷ (h ++ (10 ∷ []))) = omega (arith, length-append h (10 ∷ [])) in
+    both long stores
 
 -- ---- how long a line is
+
+pub tail-long : (bs : List ℕ) → (length bs ≡ 0 → ⊥) → length (tailOf bs) ≡ 2 + 2 * length bs
+tail-long bs h = rw (tail-some bs h) (omega (arith, length-append (hexOf bs) (10 ∷ []), hex-length bs))
+
+pub tail-least : (bs : List ℕ) → 1 ≤ length (tailOf bs)
+tail-least [] = rw (tail-none [] refl) (omega arith)
+tail-least (b ∷ bs) = omega (arith, tail-long (b ∷ bs) (λ e. absurd (omega arith)))
+
+pub line-long : (k n : ℕ) (ptt : Bool) (bs : List ℕ) → length (lineOf k n ptt bs) ≡ 6 + length (tailOf bs)
+unfolding lineOf hexOf
+line-long k n ptt bs = omega arith
 
 pub line-none-long : (k n : ℕ) (ptt : Bool) (bs : List ℕ) → length bs ≡ 0 → length (lineOf k n ptt bs) ≡ 7
 unfolding lineOf hexOf

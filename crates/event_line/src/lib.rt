@@ -1,8 +1,8 @@
 // The line that an event prints.
 ghost use mathlib.Core.Path.{_≡_};
-ghost use Prim.Native.Nat.{_+_, _*_, _<_, _≤_};
+ghost use Prim.Native.Nat.{_+_, _<_, _≤_};
 ghost use lib.ListN.{length};
-ghost use Rattle.event_line.specs.Line.{hexDigit, hexOf, stored, fits, written};
+ghost use Rattle.event_line.specs.Line.{hexDigit, tailOf, stored, fits, written};
 
 pub enum Line {
     // The place behind the line.
@@ -41,14 +41,7 @@ pub fn put_line(kind: u8, number: u8, ptt: bool, bytes: &[u8], dst: &mut [u8], a
         ZERO + (ptt as u8),
     ];
     store::copy_in(&head, dst, at);
-    if bytes.len() == 0 {
-        dst[at + 6] = NEWLINE;
-        return Line::Wrote(at + 7);
-    }
-    dst[at + 6] = BLANK;
-    let end = write_hex(bytes, dst, at + 7);
-    dst[end] = NEWLINE;
-    Line::Wrote(end + 1)
+    Line::Wrote(write_tail(bytes, dst, at + 6))
 }
 
 // Without bytes a line has 7, else 8 and two digits for each byte. Divided here, since twice a length may be no number.
@@ -75,12 +68,18 @@ fn hex_digit(nibble: u8) -> u8
     }
 }
 
-fn write_hex(src: &[u8], dst: &mut [u8], at: usize) -> usize
-    requires { ⌜ at + 2 * length (now src) ≤ length (now dst) ⌝ }
-    ensures { λ r. ⌜ (r, now (dst .exit)) ≡ stored (hexOf (now (src .entry))) at (now (dst .entry)) ⌝ }
+// What follows PTT.
+fn write_tail(src: &[u8], dst: &mut [u8], at: usize) -> usize
+    requires { ⌜ at + length (tailOf (now src)) ≤ length (now dst) ⌝ }
+    ensures { λ r. ⌜ (r, now (dst .exit)) ≡ stored (tailOf (now (src .entry))) at (now (dst .entry)) ⌝ }
 {
+    if src.len() == 0 {
+        dst[at] = NEWLINE;
+        return at + 1;
+    }
+    dst[at] = BLANK;
     let mut i = 0;
-    let mut j = at;
+    let mut j = at + 1;
     while i < src.len() {
         let b = src[i];
         i += 1;
@@ -88,5 +87,6 @@ fn write_hex(src: &[u8], dst: &mut [u8], at: usize) -> usize
         dst[j + 1] = hex_digit(b % 16);
         j += 2;
     }
-    j
+    dst[j] = NEWLINE;
+    j + 1
 }
