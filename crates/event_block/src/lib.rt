@@ -59,10 +59,10 @@ pub fn run_block(
             message,
             bytes,
         );
-        let after = turn.after;
+        station = turn.after;
         // bytes that complete no frame are most of a host's, and follow each other
         let open = event_open::take_open(
-            after,
+            station,
             src,
             next,
             dst,

@@ -66,7 +66,7 @@ line-within c =
     omega (arith, steps-most _ _ (spot-at l) (omega (arith, room, l .loop .inv .1)) (t .result .wrote) (ap (λ (q : Spot). q .wrote) (t .ensures)), room, l .loop .inv .1, t .kept .1 .1 .1 .0)
 
 -- how far the bytes that complete no frame go
-bounds : (c : tie.After-station Inv-loop μ-loop) → let o = c .before .before .before .before .before .take-open in let s = c .before .before .before .before .before .before .before .before .before .before .before .before .before .before .before .before .before .before .before .before .before .before .before .step in
+bounds : (c : tie.After-station2 Inv-loop μ-loop) → let o = c .before .before .before .before .before .take-open in let s = c .before .before .before .before .before .before .before .before .before .before .before .before .before .before .before .before .before .before .before .before .before .before .before .step in
     (c .before .before .before .before .before .before .before .before .before .before .before .before .before .before .before .before .before .before .before .before .before .before .before .before .before .before .before .before .before .before .before .before .before .kind .given .0 .1 .1 .0 ≤ o .result .used) × (o .result .used ≤ length (c .before .before .before .before .before .before .before .before .before .before .before .before .before .before .before .before .before .before .before .before .before .before .before .before .before .before .before .before .before .before .before .before .before .before .before .before .before .before .before .before .before .before .before .before .before .before .before .args .src .now)) × (o .result .wrote ≤ length (s .last .1 .1 .1 .0))
 bounds c =
     let o = c .before .before .before .before .before .take-open in let s = c .before .before .before .before .before .before .before .before .before .before .before .before .before .before .before .before .before .before .before .before .before .before .before .step in
@@ -128,19 +128,19 @@ run-block-spec =
     (λ c κs. search needs)
     loop-less
     loop-again
-    (λ c. search needs)
-    (λ c. search needs)
-    (λ c. search needs)
-    (λ c. search needs)
-    (λ c. search needs)
-    (λ c. search needs)
-    (λ c. search needs)
+    (λ c. c .before .loop .inv .2)
+    (λ c. c .before .loop .inv .3)
+    (λ c. c .before .loop .inv .4)
+    (λ c. c .before .loop .inv .5)
+    (λ c. c .before .loop .inv .6)
+    (λ c. c .before .loop .inv .7)
+    (λ c. c .before .loop .inv .8)
     returns-2
-    (λ c. search needs)
-    (λ c. search needs)
-    (λ c. search needs)
-    (λ c. search needs)
-    (λ c. search needs)
-    (λ c. search needs)
-    (λ c. search needs)
+    (λ c. c .before .before .before .loop .inv .2)
+    (λ c. c .before .before .before .loop .inv .3)
+    (λ c. c .before .before .before .loop .inv .4)
+    (λ c. c .before .before .before .loop .inv .5)
+    (λ c. c .before .before .before .loop .inv .6)
+    (λ c. c .before .before .before .loop .inv .7)
+    (λ c. c .before .before .before .loop .inv .8)
     returns-3)
