@@ -101,12 +101,6 @@ fn stopped(s: Session) -> Session {
     t
 }
 
-fn answered(s: Session, answer: usize) -> Session {
-    let mut t = s;
-    t.answer = answer;
-    t
-}
-
 fn serve(head: &[u8], s: Session, body: &[u8], room: &mut [u8], store: &mut [u8; 1713]) -> Session {
     let first = two(head, 4);
     let end = first + two(head, 6);
@@ -136,14 +130,9 @@ fn reply(
     store: &mut [u8; 1713],
 ) -> Session {
     count_up(at(head, 3), room);
-    told(ask(at(head, 0), a, b, s, room, store), room)
-}
-
-fn told(s: Session, room: &[u8]) -> Session {
-    if !wrote(s.answer, room) {
-        return stopped(s);
-    }
-    s
+    let mut t = ask(at(head, 0), a, b, s, room, store);
+    t.going = wrote(t.answer, room);
+    t
 }
 
 fn wrote(answer: usize, room: &[u8]) -> bool {
@@ -188,13 +177,15 @@ fn ask(
     room: &mut [u8],
     store: &mut [u8; 1713],
 ) -> Session {
-    if kind < 32 {
-        return answered(s, plain(kind, a, b, room));
+    if 48 <= kind {
+        return lich_step(kind, a, s, room);
     }
-    if kind < 48 {
+    if 32 <= kind {
         return read_step(kind, a, s, room, store);
     }
-    lich_step(kind, a, s, room)
+    let mut t = s;
+    t.answer = plain(kind, a, b, room);
+    t
 }
 
 fn plain(kind: u8, a: &[u8], b: &[u8], room: &mut [u8]) -> usize {
@@ -204,24 +195,20 @@ fn plain(kind: u8, a: &[u8], b: &[u8], room: &mut [u8]) -> usize {
     if kind < 16 {
         return bytes(kind, a, room);
     }
-    lsf(kind, lsf_of(a), at(b, 0), room)
+    lsf(kind, a, at(b, 0), room)
 }
 
 fn build(kind: u8, a: &[u8], b: &[u8], room: &mut [u8]) -> Built {
+    let port = at(a, 0);
+    let value = at(a, 1);
     match kind {
-        1 => kiss_build::new_basic_packet(a, room),
-        2 => kiss_build::new_full_packet(a, b, room),
-        3 => kiss_build_stream::new_stream_setup(a, room),
-        4 => kiss_build_stream::new_stream_data(stream_frame(a), room),
-        _ => build_setting(kind, at(a, 0), at(a, 1), room),
-    }
-}
-
-fn build_setting(kind: u8, port: u8, value: u8, room: &mut [u8]) -> Built {
-    match kind {
-        5 => kiss_settings::new_set_tx_delay(port, value, room),
-        6 => kiss_settings::new_set_p(port, value, room),
-        _ => kiss_settings::set_full_duplex(port, value != 0, room),
+        1 => return kiss_build::new_basic_packet(a, room),
+        2 => return kiss_build::new_full_packet(a, b, room),
+        3 => return kiss_build_stream::new_stream_setup(a, room),
+        4 => return kiss_build_stream::new_stream_data(stream_frame(a), room),
+        5 => return kiss_settings::new_set_tx_delay(port, value, room),
+        6 => return kiss_settings::new_set_p(port, value, room),
+        _ => return kiss_settings::set_full_duplex(port, value != 0, room),
     }
 }
 
@@ -238,7 +225,10 @@ fn built(r: Built) -> usize {
 // Laid out as the body of event 07.
 fn stream_frame(a: &[u8]) -> StreamFrame {
     let part = part_of(a);
-    let content = content_of(a);
+    let mut content = [0u8; 16];
+    if a.len() == 25 {
+        store::copy_in(&a[9..25], &mut content, 0);
+    }
     StreamFrame {
         lich_idx: at(a, 0),
         lich_part: part,
@@ -248,132 +238,88 @@ fn stream_frame(a: &[u8]) -> StreamFrame {
     }
 }
 
+// The LICH part behind its index.
 fn part_of(a: &[u8]) -> [u8; 5] {
     let mut part = [0u8; 5];
-    if a.len() == 25 {
+    if 6 <= a.len() {
         store::copy_in(&a[1..6], &mut part, 0);
     }
     part
 }
 
-fn content_of(a: &[u8]) -> [u8; 16] {
-    let mut content = [0u8; 16];
-    if a.len() == 25 {
-        store::copy_in(&a[9..25], &mut content, 0);
-    }
-    content
-}
-
 fn bytes(kind: u8, a: &[u8], room: &mut [u8]) -> usize {
     match kind {
-        8 => crc::m17_crc(a) as usize,
-        9 => port(a),
-        10 => command(a),
-        11 => payload(a, room),
-        12 => escaped(a, room),
-        13 => kiss_unescape::unescape(a, room) % VALUES,
-        _ => kiss_length::escaped_len(a) % VALUES,
+        8 => return crc::m17_crc(a) as usize,
+        9 => match kiss_header::port(a) {
+            PortRead::Port(n) => return n as usize,
+            PortRead::MalformedKissFrame => return MALFORMED,
+        },
+        10 => match kiss_header::command(a) {
+            CommandRead::Command(c) => return kiss_header::proto_value(c) as usize,
+            CommandRead::MalformedKissFrame => return MALFORMED,
+            CommandRead::UnsupportedKissCommand => return UNSUPPORTED,
+        },
+        11 => match kiss_read::decode_payload(a, room) {
+            Decoded::Payload(n) => return n % VALUES,
+            Decoded::MalformedKissFrame => return MALFORMED,
+        },
+        12 => match kiss_escape::escape(a, room) {
+            Escaped::Wrote(n) => return n % VALUES,
+            Escaped::NoRoom => return NO_ROOM,
+        },
+        13 => return kiss_unescape::unescape(a, room) % VALUES,
+        _ => return kiss_length::escaped_len(a) % VALUES,
     }
 }
 
-fn port(a: &[u8]) -> usize {
-    match kiss_header::port(a) {
-        PortRead::Port(n) => n as usize,
-        PortRead::MalformedKissFrame => MALFORMED,
-    }
-}
-
-fn command(a: &[u8]) -> usize {
-    match kiss_header::command(a) {
-        CommandRead::Command(c) => kiss_header::proto_value(c) as usize,
-        CommandRead::MalformedKissFrame => MALFORMED,
-        CommandRead::UnsupportedKissCommand => UNSUPPORTED,
-    }
-}
-
-fn payload(a: &[u8], room: &mut [u8]) -> usize {
-    match kiss_read::decode_payload(a, room) {
-        Decoded::Payload(n) => n % VALUES,
-        Decoded::MalformedKissFrame => MALFORMED,
-    }
-}
-
-fn escaped(a: &[u8], room: &mut [u8]) -> usize {
-    match kiss_escape::escape(a, room) {
-        Escaped::Wrote(n) => n % VALUES,
-        Escaped::NoRoom => NO_ROOM,
-    }
-}
-
-fn lsf_of(a: &[u8]) -> LsfFrame {
+// A field's number; the meta field and a setter's LSF go into the room.
+fn lsf(kind: u8, a: &[u8], v: u8, room: &mut [u8]) -> usize {
     let mut all = [0u8; 30];
     store::copy_in(a, &mut all, 0);
-    LsfFrame(all)
-}
-
-// A setter's LSF goes into the room.
-fn lsf(kind: u8, f: LsfFrame, v: u8, room: &mut [u8]) -> usize {
+    let f = LsfFrame(all);
     if kind < 21 {
         return lsf_number(kind, f);
     }
     if kind == 21 {
-        return put(&lsf_fields::meta(f), room);
+        store::copy_in(&lsf_fields::meta(f), room, 0);
+        return 14;
     }
-    put_lsf(lsf_set(kind, v, f), room)
+    let set = lsf_set(kind, v, f);
+    let after = set.0;
+    store::copy_in(&after, room, 0);
+    30
 }
 
 fn lsf_number(kind: u8, f: LsfFrame) -> usize {
     match kind {
-        16 => f.check_crc() as usize,
-        17 => mode_number(f.mode()),
-        18 => data_type_number(lsf_fields::data_type(f)),
-        19 => encryption_number(lsf_fields::encryption_type(f)),
-        _ => lsf_fields::channel_access_number(f) as usize,
+        16 => return f.check_crc() as usize,
+        17 => match f.mode() {
+            Mode::Packet => return 0,
+            Mode::Stream => return 1,
+        },
+        18 => match lsf_fields::data_type(f) {
+            DataType::Reserved => return 0,
+            DataType::Data => return 1,
+            DataType::Voice => return 2,
+            DataType::VoiceAndData => return 3,
+        },
+        19 => match lsf_fields::encryption_type(f) {
+            EncryptionType::None => return 0,
+            EncryptionType::Scrambler => return 1,
+            EncryptionType::Aes => return 2,
+            EncryptionType::Other => return 3,
+        },
+        _ => return lsf_fields::channel_access_number(f) as usize,
     }
 }
 
 fn lsf_set(kind: u8, v: u8, f: LsfFrame) -> LsfFrame {
     match kind {
-        22 => lsf_setters::set_mode(f, mode(v)),
-        23 => lsf_setters::set_data_type(f, data_type(v)),
-        24 => lsf_setters::set_encryption_type(f, encryption(v)),
-        25 => lsf_setters::set_channel_access_number(f, v),
-        _ => LsfFrame::packet_basic(),
-    }
-}
-
-fn put(s: &[u8], room: &mut [u8]) -> usize {
-    store::copy_in(s, room, 0);
-    s.len() % VALUES
-}
-
-fn put_lsf(f: LsfFrame, room: &mut [u8]) -> usize {
-    let all = f.0;
-    put(&all, room)
-}
-
-fn mode_number(mode: Mode) -> usize {
-    match mode {
-        Mode::Packet => 0,
-        Mode::Stream => 1,
-    }
-}
-
-fn data_type_number(kind: DataType) -> usize {
-    match kind {
-        DataType::Reserved => 0,
-        DataType::Data => 1,
-        DataType::Voice => 2,
-        DataType::VoiceAndData => 3,
-    }
-}
-
-fn encryption_number(kind: EncryptionType) -> usize {
-    match kind {
-        EncryptionType::None => 0,
-        EncryptionType::Scrambler => 1,
-        EncryptionType::Aes => 2,
-        EncryptionType::Other => 3,
+        22 => return lsf_setters::set_mode(f, mode(v)),
+        23 => return lsf_setters::set_data_type(f, data_type(v)),
+        24 => return lsf_setters::set_encryption_type(f, encryption(v)),
+        25 => return lsf_setters::set_channel_access_number(f, v),
+        _ => return LsfFrame::packet_basic(),
     }
 }
 
@@ -404,11 +350,26 @@ fn encryption(v: u8) -> EncryptionType {
 
 // A new reader, a write, the next frame (into the room), or the reader's record as one number with its store in the room.
 fn read_step(kind: u8, a: &[u8], s: Session, room: &mut [u8], store: &mut [u8; 1713]) -> Session {
+    let reader = s.reader;
     match kind {
-        32 => with_reader(s, KissBuffer::new(), 0),
-        33 => offer(s, a, store),
-        34 => take(s, room, store),
-        _ => show(s, room, store),
+        32 => return with_reader(s, KissBuffer::new(), 0),
+        33 => {
+            let w = kiss_buffer::write(reader, a, store);
+            let answer = w.answer;
+            let after = w.buffer;
+            return with_reader(s, after, write_number(answer, w.count));
+        }
+        34 => {
+            let next = kiss_next::next_frame(reader, store);
+            let answer = next.answer;
+            let after = next.buffer;
+            store::copy_in(kiss_sound::frame(after, store), room, 0);
+            return with_reader(s, after, next_number(answer));
+        }
+        _ => {
+            store::copy_in(store, room, 0);
+            return with_reader(s, reader, record_number(reader));
+        }
     }
 }
 
@@ -420,33 +381,6 @@ fn with_reader(s: Session, reader: KissBuffer, answer: usize) -> Session {
         answer: answer,
         going: true,
     }
-}
-
-fn offer(s: Session, a: &[u8], store: &mut [u8; 1713]) -> Session {
-    let reader = s.reader;
-    let w = kiss_buffer::write(reader, a, store);
-    let answer = w.answer;
-    let after = w.buffer;
-    with_reader(s, after, write_number(answer, w.count))
-}
-
-fn take(s: Session, room: &mut [u8], store: &mut [u8; 1713]) -> Session {
-    let reader = s.reader;
-    let next = kiss_next::next_frame(reader, store);
-    let answer = next.answer;
-    let after = next.buffer;
-    put_frame(after, store, room);
-    with_reader(s, after, next_number(answer))
-}
-
-fn put_frame(reader: KissBuffer, store: &[u8], room: &mut [u8]) {
-    put(kiss_sound::frame(reader, store), room);
-}
-
-fn show(s: Session, room: &mut [u8], store: &[u8]) -> Session {
-    put(store, room);
-    let reader = s.reader;
-    answered(s, record_number(reader))
 }
 
 fn record_number(reader: KissBuffer) -> usize {
@@ -478,11 +412,17 @@ fn next_number(answer: NextAnswer) -> usize {
 
 // A new collection, a segment set, how many were heard, or the LSF (into the room, value 30) where all were.
 fn lich_step(kind: u8, a: &[u8], s: Session, room: &mut [u8]) -> Session {
+    let lich = s.lich;
     match kind {
-        48 => with_lich(s, LichCollection::new(), 0),
-        49 => segment(s, a),
-        50 => answered(s, heard(s.lich)),
-        _ => answered(s, assembled(s.lich, room)),
+        48 => return with_lich(s, LichCollection::new(), 0),
+        49 => {
+            let set = lich.set_segment(at(a, 0), part_of(a));
+            let answer = set.answer;
+            let after = set.collection;
+            return with_lich(s, after, segment_number(answer));
+        }
+        50 => return with_lich(s, lich, heard(lich)),
+        _ => return with_lich(s, lich, assembled(lich, room)),
     }
 }
 
@@ -494,15 +434,6 @@ fn with_lich(s: Session, lich: LichCollection, answer: usize) -> Session {
         answer: answer,
         going: true,
     }
-}
-
-fn segment(s: Session, a: &[u8]) -> Session {
-    let lich = s.lich;
-    let part = [at(a, 1), at(a, 2), at(a, 3), at(a, 4), at(a, 5)];
-    let set = lich.set_segment(at(a, 0), part);
-    let answer = set.answer;
-    let after = set.collection;
-    with_lich(s, after, segment_number(answer))
 }
 
 fn segment_number(answer: SegmentAnswer) -> usize {
@@ -525,7 +456,10 @@ fn assembled(lich: LichCollection, room: &mut [u8]) -> usize {
     let answer = r.answer;
     let all = r.bytes;
     match answer {
-        Assembly::Whole => put(&all, room),
+        Assembly::Whole => {
+            store::copy_in(&all, room, 0);
+            30
+        }
         Assembly::Missing => 0,
         Assembly::OutOfBounds => OUT_OF_BOUNDS,
     }
