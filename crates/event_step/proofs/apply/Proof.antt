@@ -1,5 +1,5 @@
 -- `event_step::apply` meets its contract. Assumes nothing.
-use mathlib.Core.Path.{_≡_}
+use mathlib.Core.Path.{_≡_, refl}
 use mathlib.Core.Option.{none}
 use borrow.Author.Needs.{needs}
 use Rattle.choice.specs.Pick.{tests}
@@ -61,27 +61,27 @@ apply-spec =
     (λ c κs. search needs)
     (λ c κs. search needs)
     (λ c κs. search needs)
-    (λ c. search needs)
-    (λ c. search needs)
-    (λ c. search needs)
+    (λ c. c .before .before .before .before .before .before .host-byte .kept .1 .1 .0)
+    (λ c. c .before .before .before .before .before .before .host-byte .kept .1 .1 .1 .0)
+    (λ c. c .before .before .before .before .before .before .host-byte .kept .1 .1 .1 .1 .0)
     returns-2
     returns-3
     returns-4
     returns-5
-    (λ c. search needs)
-    (λ c. search needs)
+    (λ c. c .before .before .before .before .lsf .kept .1 .1 .0)
+    (λ c. c .before .before .before .before .lsf .kept .1 .1 .1 .0)
     returns-6
-    (λ c. search needs)
-    (λ c. search needs)
+    (λ c. c .before .before .before .before .packet .kept .1 .1 .0)
+    (λ c. c .before .before .before .before .packet .kept .1 .1 .1 .0)
     returns-7
-    (λ c. search needs)
-    (λ c. search needs)
+    (λ c. c .before .before .before .before .stream .kept .1 .1 .0)
+    (λ c. c .before .before .before .before .stream .kept .1 .1 .1 .0)
     returns-8
-    (λ c. search needs)
-    (λ c. search needs)
-    (λ c. search needs)
+    (λ c. refl)
+    (λ c. refl)
+    (λ c. c .before .before .read-tx .kept .1 .1 .1 .1 .0)
     returns-9
-    (λ c. search needs)
-    (λ c. search needs)
+    (λ c. refl)
+    (λ c. c .before .before .read-host .kept .1 .1 .1 .0)
     returns-10
     returns-11)
