@@ -14,7 +14,7 @@ use Rattle.radio.specs.declared.Hears.{Hears}
 use Rattle.radio.specs.declared.Hears.the-variants.{Frame, Answer}
 use Rattle.radio.specs.Radio.{RX, MESSAGE, soundRadio, answered, hearsBy, hearsOf, listening, unlessSending}
 use Rattle.radio.specs.Box.{Box, Receiving}
-use Rattle.radio.specs.Promises.{ReceivingHears, OnlyReceivingHears, ListenedTo, SendingHearsNothing, ToHostIsTold, ToldStaysSound}
+use Rattle.radio.specs.Promises.{AnsweredKeepsAll, ReceivingHears, OnlyReceivingHears, ListenedTo, SendingHearsNothing, ToHostIsTold, ToldStaysSound}
 use Rattle.radio.proofs.Messages.{length-over, told-sound, left-over}
 use Rattle.radio.proofs.Cases.{frame-only, heard-as}
 
@@ -42,6 +42,9 @@ each P x h kept f = go (hearsOf (x .radio) (x .rx) (x .out)) refl
     go : (k : Hears) → hearsOf (x .radio) (x .rx) (x .out) ≡ k → P (listening k (x .radio) (x .rx) (x .out) h)
     go Frame e = f (frame-only x e)
     go (Answer a) e = kept a
+
+pub answered-keeps-all : AnsweredKeepsAll
+answered-keeps-all a r = (refl, refl)
 
 pub to-host-is-told : ToHostIsTold
 to-host-is-told s b rx out = record { its-state = refl; its-message = left-over (frameOf b) out }

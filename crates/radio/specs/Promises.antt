@@ -9,11 +9,17 @@ use Rattle.kiss_layout.specs.Promises.{Accepted}
 use Rattle.outgoing.specs.Message.{left}
 use Rattle.state.specs.declared.State.{State}
 use Rattle.state.specs.State.{transmits, soundState}
+use Rattle.radio.specs.declared.AirAnswer.{AirAnswer}
 use Rattle.radio.specs.declared.AirAnswer.the-variants.{Done}
 use Rattle.radio.specs.declared.Heard.{Heard}
+use Rattle.radio.specs.declared.Radio.{Radio}
 use Rattle.radio.specs.declared.Hears.the-variants.{Frame}
 use Rattle.radio.specs.Radio.{answered, toHost, hearsOf, unlessSending}
 use Rattle.radio.specs.Box.{Box, leftBy, Sound, Receiving}
+
+-- an answer by which nothing changes says what it was given, and the radio is as it was
+abbrev pub AnsweredKeepsAll : Type 0
+AnsweredKeepsAll = (a : AirAnswer) (r : Radio) → (answered a r .answer ≡ a) × (answered a r .radio ≡ r)
 
 -- a frame is listened to exactly where all is sound and PTT is off
 abbrev pub ReceivingHears : Type 0
