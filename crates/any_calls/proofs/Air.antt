@@ -30,18 +30,18 @@ use Rattle.radio.specs.Radio.{RX, MESSAGE, unlessSending, airNumber}
 use Rattle.radio.specs.Box.{Box, leftBy, Sound as RadioSound}
 use Rattle.radio.proofs.Kept as radio
 use Rattle.air_lsf.specs.Begun.{begun, lsfHeard}
-use Rattle.air_collect.specs.Collected.{collectedAfter}
+use Rattle.tnc_air.specs.Collected.{collectedAfter}
 use Rattle.tnc_air.specs.Heard.{collectedIn, finishedAfter, finishedIn, finished, counted, packetHeard}
-use Rattle.stream_restart.specs.Restarted.{restarted}
-use Rattle.stream_acquire.specs.Acquired.{acquiredWith}
-use Rattle.stream_follow.specs.Followed.{followed}
+use Rattle.tnc_stream.specs.Restarted.{restarted}
+use Rattle.tnc_stream.specs.Acquired.{acquiredWith}
+use Rattle.tnc_stream.specs.Followed.{followed}
 use Rattle.tnc_stream.specs.Stream.{acquired, receivedIn, ranged, streamHeard}
 use Rattle.tnc_core.specs.Tnc.{soundTnc, withRadio}
 use Rattle.tnc_core.proofs.Bounds.{parts}
 use Rattle.tnc_core.proofs.Kept.{with-radio-is-sound}
-use Rattle.tnc_heard.specs.declared.TncHeard.{TncHeard}
-use Rattle.tnc_heard.specs.Calls.{putHeard, tncHears, heardBy, airHeard}
-use Rattle.tnc_heard.proofs.Cases.{heard-as}
+use Rattle.tnc_receive.specs.declared.TncHeard.{TncHeard}
+use Rattle.tnc_receive.specs.Calls.{putHeard, tncHears, heardBy, airHeard}
+use Rattle.tnc_receive.proofs.Cases.{heard-as}
 use Rattle.any_calls.specs.Calls.{World, hears, afterHeard}
 use Rattle.any_calls.specs.Promises.{Sound}
 

@@ -25,17 +25,17 @@ use Rattle.state.specs.declared.Transmission.{Transmission}
 use Rattle.state.specs.State.{transmissionOf}
 use Rattle.radio.specs.declared.Heard.{Heard}
 use Rattle.host_record.specs.declared.Host.{Host}
-use Rattle.host_setting.specs.declared.Setting.{Setting}
-use Rattle.host_setting.specs.declared.Setting.the-variants.{Value, Nothing}
+use Rattle.host_frame.specs.declared.Setting.{Setting}
+use Rattle.host_frame.specs.declared.Setting.the-variants.{Value, Nothing}
 use Rattle.host_frame.specs.declared.FrameTaken.{FrameTaken}
-use Rattle.host_setting.specs.Setting.{settingIn, delaySet, duplexOf}
-use Rattle.host_data.specs.Data.{dataTaken}
+use Rattle.host_frame.specs.Setting.{settingIn, delaySet, duplexOf}
+use Rattle.host_frame.specs.Data.{dataTaken}
 use Rattle.host_frame.specs.Frame.{byCommand, obeyedOn, byPort, obeyed}
 use Rattle.host_frame.specs.Promises.{Box as HostBox, leftBy, after as afterFrame, Sound as HostSound}
 use Rattle.host_frame.proofs.Cases.{taken}
 use Rattle.host_frame.proofs.Kept as host
 use Rattle.tnc_drain.specs.Drain.{allTaken, framesHeld}
-use Rattle.tnc_host.proofs.Kept as hosts
+use Rattle.tnc.proofs.Kept as hosts
 use Rattle.tnc_core.specs.declared.Tnc.{Tnc}
 use Rattle.tnc_clock.specs.Clock.{nowSet, endTimeSet}
 use Rattle.tnc.specs.declared.TncWritten.{TncWritten}

@@ -19,9 +19,9 @@ use Rattle.streams.specs.Queue.{STORE as STREAMS}
 use Rattle.radio.specs.Radio.{MESSAGE, soundRadio}
 use Rattle.host_record.specs.Host.{soundHost}
 use Rattle.tnc_drain.specs.Drain.{readerBox, hostBox}
-use Rattle.tnc_host.specs.Promises.{Link, writtenAt, Sound as LinkSound}
-use Rattle.tnc_host.specs.Promises.{afterWrite as afterLink}
-use Rattle.tnc_host.proofs.Kept as host
+use Rattle.tnc.specs.Promises.{Link, writtenAt, Sound as LinkSound}
+use Rattle.tnc.specs.Promises.{afterWrite as afterLink}
+use Rattle.tnc.proofs.Kept as host
 use Rattle.tnc_core.specs.declared.Tnc.{Tnc}
 use Rattle.tnc_core.specs.Tnc.{soundTnc}
 use Rattle.tnc_core.proofs.Bounds.{parts, joined}

@@ -21,11 +21,11 @@ use Rattle.tnc_core.specs.Tnc.{newTnc, pttOf, pttNumber}
 use Rattle.tnc_clock.specs.Clock.{nowSet, endTimeSet}
 use Rattle.tnc.specs.declared.TncWritten.{TncWritten}
 use Rattle.tnc_read.specs.declared.TncRead.{TncRead}
-use Rattle.tnc_heard.specs.declared.TncHeard.{TncHeard}
+use Rattle.tnc_receive.specs.declared.TncHeard.{TncHeard}
 use Rattle.tnc_transmit.specs.declared.TncTx.{TncTx}
 use Rattle.tnc.specs.Calls.{tncWritten}
 use Rattle.tnc_read.specs.Calls.{tncRead}
-use Rattle.tnc_heard.specs.Calls.{airHeard}
+use Rattle.tnc_receive.specs.Calls.{airHeard}
 use Rattle.tnc_transmit.specs.Calls.{tncTx}
 
 -- the TNC's record, the channel and the five stores

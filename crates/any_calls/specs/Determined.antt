@@ -11,7 +11,7 @@ use Rattle.tnc_core.specs.Tnc.{pttOf}
 use Rattle.tnc_clock.specs.Clock.{nowSet, endTimeSet}
 use Rattle.tnc.specs.declared.TncWritten.{TncWritten}
 use Rattle.tnc_read.specs.declared.TncRead.{TncRead}
-use Rattle.tnc_heard.specs.declared.TncHeard.{TncHeard}
+use Rattle.tnc_receive.specs.declared.TncHeard.{TncHeard}
 use Rattle.tnc_transmit.specs.declared.TncTx.{TncTx}
 use Rattle.any_calls.specs.Calls.{World, Call, writeKiss, readKiss, handleLsf, handlePacket, handleStream, setDataCarrierDetect, setNow, setTxEndTime, ptt, readTxFrame, writes, reads, hears, lsfIn, packetIn, streamIn, gives}
 

@@ -4,7 +4,7 @@ use mathlib.Core.Path.{_≡_, ap, _∙_}
 use mathlib.Core.List.{List}
 use Rattle.channel.specs.declared.Channel.{Channel}
 use Rattle.radio.specs.Radio.{airNumber}
-use Rattle.tnc_heard.specs.declared.TncHeard.{TncHeard}
+use Rattle.tnc_receive.specs.declared.TncHeard.{TncHeard}
 use Rattle.event_answer.specs.declared.Applied.{Applied}
 use Rattle.event_answer.specs.Answer.{answered}
 use Rattle.event_air.specs.Air.{ofHeard}

@@ -3,7 +3,7 @@ use Prim.Native.Nat.{ℕ}
 use mathlib.Core.List.{List}
 use Rattle.channel.specs.declared.Channel.{Channel}
 use Rattle.radio.specs.Radio.{airNumber}
-use Rattle.tnc_heard.specs.declared.TncHeard.{TncHeard}
+use Rattle.tnc_receive.specs.declared.TncHeard.{TncHeard}
 use Rattle.event_answer.specs.declared.Applied.{Applied}
 use Rattle.event_answer.specs.Answer.{answered}
 

@@ -5,7 +5,7 @@ use event_answer::answer;
 use event_answer::refuse;
 use protocol::LsfFrame;
 use radio::AirAnswer;
-use tnc_heard::TncHeard;
+use tnc_receive::TncHeard;
 ghost use mathlib.Core.Path.{_≡_};
 ghost use lib.Dec.{eqb};
 ghost use lib.ListN.{length};
@@ -15,7 +15,7 @@ ghost use Rattle.streams.specs.Layout.{frameOf};
 ghost use Rattle.tnc_air.specs.Heard.{packetHeard};
 ghost use Rattle.air_lsf.specs.Begun.{lsfHeard};
 ghost use Rattle.tnc_stream.specs.Stream.{streamHeard};
-ghost use Rattle.tnc_heard.specs.Calls.{airHeard};
+ghost use Rattle.tnc_receive.specs.Calls.{airHeard};
 ghost use Rattle.event_packet.specs.Packet.{packetOf};
 ghost use Rattle.event_answer.specs.Answer.{answered, refused};
 ghost use Rattle.event_air.specs.Air.{ofHeard};
@@ -29,7 +29,7 @@ pub fn lsf(before: EventBox, body: &[u8], rx: &mut [u8], message: &mut [u8]) -> 
     let tnc = before.tnc;
     let mut thirty = [0u8; 30];
     store::copy_in(body, &mut thirty, 0);
-    let heard = receive_lsf::handle_lsf(tnc, LsfFrame(thirty), rx, message);
+    let heard = tnc_receive::handle_lsf(tnc, LsfFrame(thirty), rx, message);
     told(before, heard)
 }
 
@@ -42,7 +42,7 @@ pub fn packet(before: EventBox, body: &[u8], rx: &mut [u8], message: &mut [u8]) 
     let tnc = before.tnc;
     let mut all = [0u8; 26];
     store::copy_in(body, &mut all, 0);
-    let heard = receive_packet::handle_packet(tnc, event_packet::packet_frame(all), rx, message);
+    let heard = tnc_receive::handle_packet(tnc, event_packet::packet_frame(all), rx, message);
     told(before, heard)
 }
 
@@ -55,7 +55,7 @@ pub fn stream(before: EventBox, body: &[u8], rx: &mut [u8], message: &mut [u8]) 
     let tnc = before.tnc;
     let mut all = [0u8; 25];
     store::copy_in(body, &mut all, 0);
-    let heard = receive_stream::handle_stream(tnc, event_stream::stream_frame(all), rx, message);
+    let heard = tnc_receive::handle_stream(tnc, event_stream::stream_frame(all), rx, message);
     told(before, heard)
 }
 

@@ -19,7 +19,7 @@ use Rattle.event_line.proofs.Lines.{written-yes}
 use Rattle.event_answer.specs.Answer.{LINE}
 use Rattle.event_step.specs.Step.{applied}
 use Rattle.event_end.specs.End.{placeAfter}
-use Rattle.event_turn.specs.Spot.{Spot, spot, shown, stepped}
+use Rattle.event_block.specs.Spot.{Spot, spot, shown, stepped}
 use Rattle.event_block.specs.Block.{turned, block, complete, ready, walk}
 use Rattle.event_block.proofs.Numbers.{one-digit, line-fits}
 

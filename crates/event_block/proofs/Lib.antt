@@ -2,3 +2,4 @@ pub mod Numbers
 pub mod Blocks
 pub mod Opens
 pub mod Whole
+pub mod Turns

@@ -28,7 +28,7 @@ use Rattle.any_calls.specs.Calls.{World, Call, writeKiss, readKiss, handleLsf, 
 use Rattle.event_line.proofs.Lines.{line-most}
 use Rattle.event_answer.specs.Answer.{LINE}
 use Rattle.event_step.specs.Step.{Turn, callOf, numberOf, made, notMade, perhaps, applied}
-use Rattle.event_turn.specs.Spot.{shown}
+use Rattle.event_block.specs.Spot.{shown}
 use Rattle.event_block.specs.Block.{lineFor}
 
 write-digit : (a : WriteAnswer) → writeNumber a ≤ 9

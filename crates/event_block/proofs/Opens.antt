@@ -31,9 +31,9 @@ use Rattle.link_ready.proofs.Stores.{reader-fits, packets-fit, streams-fit}
 use Rattle.tnc_drain.specs.declared.Drained.{Drained}
 use Rattle.tnc_drain.specs.Drain.{hostBox, drained}
 use Rattle.tnc_drain.proofs.Drains.{then-ends}
-use Rattle.tnc_host.specs.declared.KissWritten.{KissWritten}
-use Rattle.tnc_host.specs.Bytes.{kissWritten}
-use Rattle.tnc_host.proofs.Cases.{went}
+use Rattle.tnc.specs.declared.KissWritten.{KissWritten}
+use Rattle.tnc.specs.Bytes.{kissWritten}
+use Rattle.tnc.proofs.Links.{went}
 use Rattle.tnc.specs.declared.TncWritten.{TncWritten}
 use Rattle.tnc.specs.Calls.{putBack, tncWritten}
 use Rattle.tnc.proofs.Cases.{is-written}
@@ -42,10 +42,10 @@ use Rattle.event_line.specs.Line.{lineOf}
 use Rattle.event_line.proofs.Lines.{line-none-long}
 use Rattle.event_answer.specs.declared.EventBox.{EventBox}
 use Rattle.event_answer.specs.Answer.{MOST, LINE, onFlag, keyed, answered}
-use Rattle.event_host.specs.Host.{ofWrite}
+use Rattle.event_step.specs.Host.{ofWrite}
 use Rattle.event_step.specs.Step.{Turn, applied, worldOf, turnOf}
 use Rattle.event_step.proofs.Events.{on-host}
-use Rattle.event_turn.specs.Spot.{Spot, spot}
+use Rattle.event_block.specs.Spot.{Spot, spot}
 use Rattle.event_open.specs.declared.Opened.{Opened}
 use Rattle.event_open.specs.declared.Run.{Run}
 use Rattle.event_open.specs.Inside.{opened, isOpen, keeps, keptRun, filledTo, openRun}

@@ -14,7 +14,7 @@ use Rattle.any_calls.specs.Calls.{World}
 use Rattle.event_input.specs.Events.{known, bodyLen}
 use Rattle.event_answer.specs.Answer.{LINE}
 use Rattle.event_step.specs.Step.{Turn, applied}
-use Rattle.event_turn.specs.Spot.{Spot, spot}
+use Rattle.event_block.specs.Spot.{Spot, spot}
 use Rattle.event_block.specs.Block.{lineFor, turned, Block, block, complete, ready, walk, blockRun, refusal}
 use Rattle.event_block.specs.Promises.{printed, opens, Runs, ends, turns, CutsChangeNothing, RunIsItsEvents}
 use Rattle.event_block.proofs.Numbers.{line-fits}

@@ -10,7 +10,7 @@ use Rattle.event_input.specs.Events.{known, bodyLen}
 use Rattle.event_line.specs.Line.{lineOf}
 use Rattle.event_answer.specs.Answer.{MOST, LINE}
 use Rattle.event_step.specs.Step.{Turn, applied}
-use Rattle.event_turn.specs.Spot.{Spot, spot, shown}
+use Rattle.event_block.specs.Spot.{Spot, spot, shown}
 
 -- ---- one event
 

@@ -11,7 +11,7 @@ use Rattle.event_line.specs.Line.{lineOf}
 use Rattle.event_answer.specs.declared.EventBox.{EventBox}
 use Rattle.event_answer.specs.Answer.{MOST, keyed}
 use Rattle.event_step.specs.Step.{applied, worldOf}
-use Rattle.event_turn.specs.Spot.{spot}
+use Rattle.event_block.specs.Spot.{spot}
 use Rattle.event_open.specs.Inside.{openRun}
 use Rattle.event_block.specs.Block.{lineFor, complete, walk, refusal, blockRun}
 

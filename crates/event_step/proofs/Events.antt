@@ -16,17 +16,17 @@ use Rattle.tnc_stream.specs.Stream.{streamHeard}
 use Rattle.tnc_clock.specs.Clock.{nowSet, endTimeSet}
 use Rattle.tnc.specs.Calls.{tncWritten}
 use Rattle.tnc_read.specs.Calls.{tncRead}
-use Rattle.tnc_heard.specs.Calls.{airHeard}
+use Rattle.tnc_receive.specs.Calls.{airHeard}
 use Rattle.tnc_transmit.specs.Calls.{tncTx}
 use Rattle.any_calls.specs.Calls.{World, Call, writeKiss, readKiss, handleLsf, handlePacket, handleStream, setDataCarrierDetect, setNow, setTxEndTime, readTxFrame, after, number}
 use Rattle.event_input.specs.Events.{bodyLen}
-use Rattle.event_number.specs.Numbers.{fourBytes, eightBytes}
+use Rattle.event_step.specs.Numbers.{fourBytes, eightBytes}
 use Rattle.event_packet.specs.Packet.{packetOf}
 use Rattle.event_answer.specs.declared.EventBox.{EventBox}
 use Rattle.event_answer.specs.declared.Applied.{Applied}
 use Rattle.event_answer.specs.Answer.{MOST, refused}
-use Rattle.event_host.specs.Host.{ofWrite, ofRead}
-use Rattle.event_channel.specs.Channel.{ofSet, ofTimed}
+use Rattle.event_step.specs.Host.{ofWrite, ofRead}
+use Rattle.event_step.specs.Channel.{ofSet, ofTimed}
 use Rattle.event_air.specs.Air.{ofHeard}
 use Rattle.event_tx.specs.Tx.{ofTx}
 use Rattle.event_step.specs.Step.{callOf, bytesAfter, numberOf, made, notMade, perhaps, applied, worldOf, turnOf}

@@ -1,2 +1,5 @@
 pub mod Step
 pub mod Promises
+pub mod Channel
+pub mod Numbers
+pub mod Host

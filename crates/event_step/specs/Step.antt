@@ -12,7 +12,7 @@ use Rattle.streams.specs.Layout.{frameOf}
 use Rattle.tnc_modulator.specs.Modulator.{kindNumber}
 use Rattle.any_calls.specs.Calls.{World, Call, writeKiss, readKiss, handleLsf, handlePacket, handleStream, setDataCarrierDetect, setNow, setTxEndTime, ptt, readTxFrame, reads, gives, after, number}
 use Rattle.event_input.specs.Events.{HOST, CARRIER, CLOCK, ENDTIME, LSF, PACKET, STREAM, READTX, READHOST, bodyLen}
-use Rattle.event_number.specs.Numbers.{fourBytes, eightBytes}
+use Rattle.event_step.specs.Numbers.{fourBytes, eightBytes}
 use Rattle.event_packet.specs.Packet.{packetOf}
 use Rattle.event_answer.specs.declared.EventBox.{EventBox}
 use Rattle.event_answer.specs.declared.Applied.{Applied}

@@ -28,10 +28,10 @@ use Rattle.streams.proofs.Kept as streams
 use Rattle.sending.specs.Sending.{soundSending}
 use Rattle.host_record.specs.declared.Host.{Host}
 use Rattle.host_record.specs.Host.{soundHost}
-use Rattle.host_setting.specs.declared.Setting.{Setting}
-use Rattle.host_setting.specs.declared.Setting.the-variants.{Value, Nothing}
-use Rattle.host_setting.specs.Setting.{withDelay, withChannel, settingFrom, settingIn, delaySet, duplexOf}
-use Rattle.host_data.specs.Data.{dataTaken}
+use Rattle.host_frame.specs.declared.Setting.{Setting}
+use Rattle.host_frame.specs.declared.Setting.the-variants.{Value, Nothing}
+use Rattle.host_frame.specs.Setting.{withDelay, withChannel, settingFrom, settingIn, delaySet, duplexOf}
+use Rattle.host_frame.specs.Data.{dataTaken}
 use Rattle.host_frame.specs.declared.FrameAnswer.the-variants.{Done, WrongStore, OutOfBounds}
 use Rattle.host_frame.specs.declared.FrameTaken.{FrameTaken}
 use Rattle.host_frame.specs.Frame.{byCommand, obeyedOn, byPort, obeyed, answered, frameTaken, frameNumber}

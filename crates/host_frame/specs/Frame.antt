@@ -14,8 +14,8 @@ use Rattle.packets.specs.Queue.{STORE as PACKETS}
 use Rattle.streams.specs.Queue.{STORE as STREAMS}
 use Rattle.host_record.specs.declared.Host.{Host}
 use Rattle.host_record.specs.Host.{soundHost}
-use Rattle.host_setting.specs.Setting.{settingIn, delaySet, duplexOf}
-use Rattle.host_data.specs.Data.{dataTaken}
+use Rattle.host_frame.specs.Setting.{settingIn, delaySet, duplexOf}
+use Rattle.host_frame.specs.Data.{dataTaken}
 use Rattle.host_frame.specs.declared.FrameAnswer.{FrameAnswer}
 use Rattle.host_frame.specs.declared.FrameAnswer.the-variants.{Done, WrongStore, OutOfBounds}
 use Rattle.host_frame.specs.declared.FrameTaken.{FrameTaken}

@@ -1,2 +1,4 @@
 pub mod Frame
 pub mod Promises
+pub mod Data
+pub mod Setting

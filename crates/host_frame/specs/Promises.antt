@@ -13,7 +13,7 @@ use Rattle.streams.specs.Queue.{STORE as STREAMS}
 use Rattle.channel.specs.Access.{withDuplex}
 use Rattle.host_record.specs.declared.Host.{Host}
 use Rattle.host_record.specs.Host.{newHost, soundHost}
-use Rattle.host_setting.specs.Setting.{withDelay, withChannel}
+use Rattle.host_frame.specs.Setting.{withDelay, withChannel}
 use Rattle.host_frame.specs.declared.FrameAnswer.the-variants.{Done}
 use Rattle.host_frame.specs.declared.FrameTaken.{FrameTaken}
 use Rattle.host_frame.specs.Frame.{frameTaken, frameNumber}

@@ -1,5 +1,4 @@
 // The reads of the packet queue, behind `packets`, which has the record and the definitions: the packets that wait are cut into frames.
-use packet_frame::first_frame;
 use packets::PacketQueue;
 use packets::PacketRead;
 use packets::ROOM_LEN;
@@ -12,6 +11,7 @@ ghost use mathlib.Core.Path.{_≡_};
 ghost use mathlib.Core.Bool.{true};
 ghost use lib.ListN.{length};
 ghost use Rattle.packets.specs.Queue.{STORE, soundQueue, lsfRead, dataRead, walk, notRead, readNext};
+ghost use Rattle.packets.specs.Frames.{chunk};
 
 // A read in a packet transmission: the next frame of the packets that wait, or the end once all of them are spent.
 pub fn read_next(queue: PacketQueue, store: &[u8]) -> PacketRead
@@ -27,6 +27,27 @@ pub fn read_next(queue: PacketQueue, store: &[u8]) -> PacketRead
         return not_read(queue, ReadAnswer::Nothing);
     }
     next_frame(queue, store)
+}
+
+// The first frame of a packet's data, or of what is left of it, where its index is the one given: 25 bytes, or as the final frame all of them.
+fn first_frame(bytes: &[u8], index: usize) -> PacketFrame
+    ensures { λ r. ⌜ r ≡ chunk index (now (bytes .entry)) ⌝ }
+{
+    let mut payload = [0u8; 25];
+    if 25 < bytes.len() {
+        store::copy_in(&bytes[..25], &mut payload, 0);
+        return PacketFrame {
+            payload: payload,
+            counter: PacketFrameCounter::Frame { index: index },
+        };
+    }
+    store::copy_in(bytes, &mut payload, 0);
+    PacketFrame {
+        payload: payload,
+        counter: PacketFrameCounter::FinalFrame {
+            payload_len: bytes.len(),
+        },
+    }
 }
 
 // Passes over the places that are spent. Such a place is free from here on, so that a full queue has room again.

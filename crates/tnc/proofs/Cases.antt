@@ -13,8 +13,8 @@ use Rattle.packets.specs.Queue.{STORE as PACKETS}
 use Rattle.streams.specs.Queue.{STORE as STREAMS}
 use Rattle.link_ready.specs.Ready.{linkFits}
 use Rattle.link_ready.proofs.Stores.{unfit}
-use Rattle.tnc_host.specs.declared.KissWritten.{KissWritten}
-use Rattle.tnc_host.specs.Bytes.{kissWritten}
+use Rattle.tnc.specs.declared.KissWritten.{KissWritten}
+use Rattle.tnc.specs.Bytes.{kissWritten}
 use Rattle.tnc_core.specs.declared.Tnc.{Tnc}
 use Rattle.tnc_core.specs.Tnc.{soundTnc}
 use Rattle.tnc.specs.declared.TncWritten.{TncWritten}

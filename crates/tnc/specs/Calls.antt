@@ -11,8 +11,8 @@ use Rattle.kiss_calls.specs.declared.WriteAnswer.the-variants.{WrongStore as No
 use Rattle.kiss_reader.specs.Reader.{STORE as READER}
 use Rattle.packets.specs.Queue.{STORE as PACKETS}
 use Rattle.streams.specs.Queue.{STORE as STREAMS}
-use Rattle.tnc_host.specs.declared.KissWritten.{KissWritten}
-use Rattle.tnc_host.specs.Bytes.{kissWritten}
+use Rattle.tnc.specs.declared.KissWritten.{KissWritten}
+use Rattle.tnc.specs.Bytes.{kissWritten}
 use Rattle.tnc_core.specs.declared.Tnc.{Tnc}
 use Rattle.tnc_core.specs.Tnc.{soundTnc}
 use Rattle.tnc.specs.declared.TncWritten.{TncWritten}

@@ -26,7 +26,7 @@ use Rattle.radio.specs.declared.AirAnswer.the-variants.{Done}
 use Rattle.radio.specs.declared.Heard.{Heard}
 use Rattle.radio.specs.Radio.{soundRadio, airNumber}
 use Rattle.air_lsf.specs.Begun.{begun, lsfHeard}
-use Rattle.air_collect.specs.Collected.{idle, placeOf, collectedAfter}
+use Rattle.tnc_air.specs.Collected.{idle, placeOf, collectedAfter}
 use Rattle.tnc_air.specs.Heard.{collectedIn, completed, finishedAfter, finishedIn, finished, counted, packetHeard}
 use Rattle.radio.specs.Box.{Box, leftBy, Sound, Receiving}
 use Rattle.tnc_air.specs.Promises.{lsf, packet, lsfAt, RefusedKeepsAll, SendingHearsNothing, SoundStaysSound, PacketBegins, PacketLsfClears, StreamBegins, StreamLsfIsTold}

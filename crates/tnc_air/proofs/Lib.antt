@@ -1,3 +1,4 @@
 pub mod Packets
 pub mod Kept
 pub mod Rebuilt
+pub mod Orders

@@ -17,8 +17,8 @@ use Rattle.state.specs.State.{transmits, receptionOf}
 use Rattle.radio.specs.declared.AirAnswer.the-variants.{Done}
 use Rattle.radio.specs.declared.Heard.{Heard}
 use Rattle.radio.specs.Radio.{answered}
-use Rattle.air_collect.specs.Collected.{placeOf}
-use Rattle.air_collect.proofs.Orders.{next-one}
+use Rattle.tnc_air.specs.Collected.{placeOf}
+use Rattle.tnc_air.proofs.Orders.{next-one}
 use Rattle.tnc_air.specs.Heard.{completed, collectedIn, finishedAfter, packetHeard, counted}
 use Rattle.radio.specs.Box.{Box, leftBy, Sound}
 use Rattle.tnc_air.specs.Promises.{AirFrame, lsf, packet, heardAt, after, afterAll, numbered, lastOf, joined, All25, ToldPacket, PacketIsRebuilt}

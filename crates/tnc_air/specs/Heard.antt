@@ -18,7 +18,7 @@ use Rattle.radio.specs.declared.Radio.{Radio}
 use Rattle.radio.specs.declared.AirAnswer.the-variants.{OutOfRange as TooLarge}
 use Rattle.radio.specs.declared.Heard.{Heard}
 use Rattle.radio.specs.Radio.{answered, toHost, unlessSending}
-use Rattle.air_collect.specs.Collected.{idle, placeOf, collectedAfter}
+use Rattle.tnc_air.specs.Collected.{idle, placeOf, collectedAfter}
 
 -- outside of a packet's reception it goes to Idle
 abbrev pub collectedIn : Reception → Radio → ℕ → List ℕ → List ℕ → Heard × List ℕ

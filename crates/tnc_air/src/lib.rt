@@ -1,12 +1,12 @@
 // What the TNC does with packet frames from the air, as m17core's tnc.rs has it. A packet that is being received stands in a store of 855 bytes that the caller
 // lends, its LSF first; the message to the host in one of 1,713 bytes.
-use air_collect::collect_after;
 use kiss_build::new_full_packet;
 use protocol::PacketFrame;
 use protocol::PacketFrameCounter;
 use radio::AirAnswer;
 use radio::Heard;
 use radio::Hears;
+use radio::RX_STORE_LEN;
 use radio::Radio;
 use radio_hears::hears;
 use radio_told::told;
@@ -18,6 +18,7 @@ ghost use mathlib.Core.Path.{_≡_};
 ghost use lib.ListN.{length};
 ghost use Rattle.radio.specs.Radio.{RX, MESSAGE, soundRadio};
 ghost use Rattle.tnc_air.specs.Heard.{collected, packetTold, finished, packetHeard};
+ghost use Rattle.tnc_air.specs.Collected.{collectedAt};
 
 // The packet goes to the host with its last frame, be its length 0 too. A frame that does not follow makes the radio idle.
 pub fn handle_packet(radio: Radio, frame: PacketFrame, rx: &mut [u8], out: &mut [u8]) -> Heard
@@ -41,6 +42,32 @@ pub fn handle_packet(radio: Radio, frame: PacketFrame, rx: &mut [u8], out: &mut 
             ),
         },
     }
+}
+
+// The frame with this index, after so many others.
+fn collect_after(
+    radio: Radio,
+    count: usize,
+    index: usize,
+    payload: [u8; 25],
+    rx: &mut [u8],
+) -> Heard
+    ensures { λ r. ⌜ (r, now (rx .exit)) ≡ collectedAt radio count index payload (now (rx .entry)) ⌝ }
+{
+    if rx.len() != RX_STORE_LEN {
+        return Heard {
+            answer: AirAnswer::WrongStore,
+            radio: radio,
+        };
+    }
+    if index != count {
+        return radio.turned(State::Idle);
+    }
+    if 32 <= index {
+        return radio.turned(State::Idle);
+    }
+    store::copy_in(&payload, rx, 30 + 25 * index);
+    radio.turned(State::RxPacket(index + 1))
 }
 
 // A frame that is not a packet's last.

@@ -3,12 +3,11 @@ use channel::Channel;
 use channel::ChannelAnswer;
 use radio::Radio;
 use state::State;
-use state_clock::at_time;
-use state_clock::ending_at;
 use tnc_core::Tnc;
 ghost use mathlib.Core.Path.{_≡_};
 ghost use Rattle.tnc_core.specs.Tnc.{withState};
 ghost use Rattle.tnc_clock.specs.Clock.{timed, nowSet, endTimeSet};
+ghost use Rattle.state.specs.State.{timeReached, endingAt};
 
 pub struct Timed {
     pub answer: ChannelAnswer,
@@ -57,6 +56,46 @@ pub fn set_tx_end_time(tnc: Tnc, channel: Channel, in_samples: u64) -> Timed
     let state = radio.state;
     let ending = ending_at(state, channel.clock + in_samples);
     told_time(ChannelAnswer::Done, with_state(tnc, ending), channel)
+}
+
+// The state once the clock shows now: a transmission whose end has come is over.
+fn at_time(state: State, now_samples: u64) -> State
+    ensures { λ r. ⌜ r ≡ timeReached state «now_samples» ⌝ }
+{
+    match state {
+        State::Idle => state,
+        State::RxAcquiringStream(_) => state,
+        State::RxStream(_) => state,
+        State::RxPacket(_) => state,
+        State::TxStream => state,
+        State::TxStreamSentEndOfStream => state,
+        State::TxPacket => state,
+        State::TxEnding => state,
+        State::TxEndingAtTime(end) => {
+            if end <= now_samples {
+                State::Idle
+            } else {
+                state
+            }
+        }
+    }
+}
+
+// The state once the modulator has said when it will be done, which counts only where an end was given and no time yet.
+fn ending_at(state: State, end: u64) -> State
+    ensures { λ r. ⌜ r ≡ endingAt state end ⌝ }
+{
+    match state {
+        State::Idle => state,
+        State::RxAcquiringStream(_) => state,
+        State::RxStream(_) => state,
+        State::RxPacket(_) => state,
+        State::TxStream => state,
+        State::TxStreamSentEndOfStream => state,
+        State::TxPacket => state,
+        State::TxEnding => State::TxEndingAtTime(end),
+        State::TxEndingAtTime(_) => state,
+    }
 }
 
 fn with_state(tnc: Tnc, state: State) -> Tnc

@@ -1,4 +1,4 @@
-// What is left once every whole frame that the reader holds was taken from it and obeyed. `tnc_host` does it.
+// What is left once every whole frame that the reader holds was taken from it and obeyed. `tnc` does it.
 use host_record::Host;
 use kiss_calls::KissBuffer;
 

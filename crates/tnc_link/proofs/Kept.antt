@@ -6,7 +6,7 @@ use borrow.Author.Tests.{le-leb}
 use Rattle.choice.specs.Pick.{pick, and}
 use Rattle.state.specs.declared.State.{State}
 use Rattle.state.specs.declared.State.the-variants.{RxAcquiringStream, RxStream}
-use Rattle.saved_state.specs.Numbers.{stateKind, stateValue, validState, stateOf}
+use Rattle.tnc_link.specs.Numbers.{stateKind, stateValue, validState, stateOf}
 use Rattle.tnc_link.specs.Promises.{Typed, idle, acquiring, stream, packet, tx-stream, tx-sent, tx-packet, tx-ending, tx-ending-at, SavedIsRestored}
 
 valid : {s : State} → Typed s → validState (stateKind s) (stateValue s) ≡ true

@@ -5,7 +5,7 @@ use mathlib.Core.Path.{_≡_}
 use Rattle.state.specs.declared.State.{State}
 use Rattle.state.specs.declared.State.the-variants.{Idle, RxAcquiringStream, RxStream, RxPacket, TxStream, TxStreamSentEndOfStream, TxPacket, TxEnding, TxEndingAtTime}
 use Rattle.event_answer.specs.declared.EventBox.{EventBox}
-use Rattle.saved_state.specs.Numbers.{validState}
+use Rattle.tnc_link.specs.Numbers.{validState}
 use Rattle.tnc_link.specs.Saved.{savedOf, restored}
 
 -- a state whose number is one of its type

@@ -13,7 +13,7 @@ use Rattle.state.specs.declared.State.{State}
 use Rattle.event_answer.specs.declared.EventBox.{EventBox}
 use Rattle.event_answer.specs.declared.Applied.{Applied}
 use Rattle.event_step.specs.Step.{Turn, applied, worldOf}
-use Rattle.saved_state.specs.Numbers.{stateKind, stateValue, validState, stateOf}
+use Rattle.tnc_link.specs.Numbers.{stateKind, stateValue, validState, stateOf}
 use Rattle.tnc_link.specs.declared.Saved.{Saved}
 use Rattle.tnc_link.specs.declared.EventAnswer.{EventAnswer}
 

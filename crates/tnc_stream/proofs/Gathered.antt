@@ -27,9 +27,9 @@ use Rattle.state.specs.declared.State.the-variants.{RxStream}
 use Rattle.state.specs.State.{transmits}
 use Rattle.radio.specs.Box.{Box, Receiving}
 use Rattle.radio.specs.Promises.{Told}
-use Rattle.stream_restart.specs.Restarted.{withFrame}
-use Rattle.stream_restart.proofs.Segments.{frame-mask, frame-thirty}
-use Rattle.stream_acquire.specs.Acquired.{complete}
+use Rattle.tnc_stream.specs.Restarted.{withFrame}
+use Rattle.tnc_stream.proofs.Segments.{frame-mask, frame-thirty}
+use Rattle.tnc_stream.specs.Acquired.{complete}
 use Rattle.tnc_stream.specs.Promises.{after, Typed, InRange, Collects, Brings, afterAll, brought, SixSegmentsGiveTheLsf}
 use Rattle.tnc_stream.proofs.Kept.{sound-stays-sound, acquisition-restarts, collected, told-whole}
 

@@ -29,12 +29,12 @@ use Rattle.radio.specs.Promises.{Told}
 use Rattle.radio.proofs.Messages.{setup-accepted, data-accepted, length-over}
 use Rattle.radio.proofs.Kept.{listened-to, each, to-host-is-told, told-stays-sound}
 use Rattle.radio.proofs.Kept.{sending-hears-nothing as nothing}
-use Rattle.stream_restart.specs.Restarted.{withFrame, collecting, restarted}
-use Rattle.stream_restart.proofs.Segments.{frame-mask, frame-thirty}
-use Rattle.stream_acquire.specs.Acquired.{complete, acquiredWith}
-use Rattle.stream_follow.specs.Followed.{behind, followed}
-use Rattle.stream_follow.proofs.Follows.{forward}
-use Rattle.stream_follow.proofs.Follows.{backward as goes-back}
+use Rattle.tnc_stream.specs.Restarted.{withFrame, collecting, restarted}
+use Rattle.tnc_stream.proofs.Segments.{frame-mask, frame-thirty}
+use Rattle.tnc_stream.specs.Acquired.{complete, acquiredWith}
+use Rattle.tnc_stream.specs.Followed.{behind, followed}
+use Rattle.tnc_stream.proofs.Follows.{forward}
+use Rattle.tnc_stream.proofs.Follows.{backward as goes-back}
 use Rattle.tnc_stream.specs.Stream.{collectionAt, acquired, receivedIn, ranged, streamHeard}
 use Rattle.tnc_stream.specs.Promises.{streamAt, after, Collects, Typed, InRange, RefusedKeepsAll, SendingHearsNothing, IndexOver5IsRefused, NumberOver32767IsRefused, SoundStaysSound, StreamFrameIsTold, Restarts, idle, packet, backward, Collected, AcquisitionRestarts, BackwardRestarts, SegmentIsKept, CompleteIsTold}
 use Rattle.tnc_stream.proofs.Frames.{index-over, received-as, mask-in}

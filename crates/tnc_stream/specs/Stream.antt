@@ -14,9 +14,9 @@ use Rattle.radio.specs.declared.Radio.{Radio}
 use Rattle.radio.specs.declared.AirAnswer.the-variants.{OutOfRange}
 use Rattle.radio.specs.declared.Heard.{Heard}
 use Rattle.radio.specs.Radio.{answered, unlessSending}
-use Rattle.stream_restart.specs.Restarted.{withFrame, restarted}
-use Rattle.stream_acquire.specs.Acquired.{acquiredWith}
-use Rattle.stream_follow.specs.Followed.{followed}
+use Rattle.tnc_stream.specs.Restarted.{withFrame, restarted}
+use Rattle.tnc_stream.specs.Acquired.{acquiredWith}
+use Rattle.tnc_stream.specs.Followed.{followed}
 
 -- ---- LICH acquisition
 

@@ -8,7 +8,7 @@ use borrow.Author.Tests.{eq-eqb, ne-eqb}
 use lib.ListN.{length, replicate}
 use Rattle.choice.specs.Pick.{pick-yes, pick-no}
 use Rattle.air_lsf.specs.Begun.{lsfHeard}
-use Rattle.tnc_heard.specs.Calls.{airHeard}
+use Rattle.tnc_receive.specs.Calls.{airHeard}
 use Rattle.event_answer.proofs.Body.{whole-copy}
 use Rattle.event_air.proofs.Answers.{heard-is}
 use Rattle.event_air.proofs.lsf.Statement.{statement}

@@ -7,7 +7,7 @@ use lib.ListN.{length, replicate}
 use Rattle.choice.specs.Pick.{pick-yes, pick-no}
 use Rattle.protocol.specs.declared.PacketFrame.{PacketFrame}
 use Rattle.tnc_air.specs.Heard.{packetHeard}
-use Rattle.tnc_heard.specs.Calls.{airHeard}
+use Rattle.tnc_receive.specs.Calls.{airHeard}
 use Rattle.event_packet.specs.Packet.{packetOf}
 use Rattle.event_answer.proofs.Body.{whole-copy}
 use Rattle.event_air.proofs.Answers.{heard-is}

@@ -7,7 +7,7 @@ use lib.ListN.{length, replicate}
 use Rattle.choice.specs.Pick.{pick-yes, pick-no}
 use Rattle.protocol.specs.declared.StreamFrame.{StreamFrame}
 use Rattle.tnc_stream.specs.Stream.{streamHeard}
-use Rattle.tnc_heard.specs.Calls.{airHeard}
+use Rattle.tnc_receive.specs.Calls.{airHeard}
 use Rattle.streams.specs.Layout.{frameOf}
 use Rattle.event_answer.proofs.Body.{whole-copy}
 use Rattle.event_air.proofs.Answers.{heard-is}

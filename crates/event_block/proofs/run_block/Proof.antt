@@ -17,7 +17,7 @@ use Rattle.event_input.specs.Promises.{Whole}
 use Rattle.event_input.proofs.Kept.{complete-is-whole}
 use Rattle.event_answer.specs.Answer.{MOST}
 use Rattle.event_step.specs.Step.{worldOf}
-use Rattle.event_turn.specs.Spot.{Spot, spot}
+use Rattle.event_block.specs.Spot.{Spot, spot}
 use Rattle.event_block.specs.Block.{walk, blockRun}
 use Rattle.event_block.proofs.Blocks.{steps-most, walk-full, stops, isWhole, on}
 use Rattle.event_open.proofs.Runs.{open-bounds}

@@ -8,7 +8,7 @@ use borrow.Author.Needs.{needs}
 use Rattle.choice.specs.Pick.{not-yes, not-no}
 use Rattle.link_ready.specs.Ready.{linkFits}
 use Rattle.link_ready.proofs.Stores.{reader-fits, packets-fit, streams-fit}
-use Rattle.tnc_host.specs.declared.KissWritten.{KissWritten}
+use Rattle.tnc.specs.declared.KissWritten.{KissWritten}
 use Rattle.tnc.specs.declared.TncWritten.{TncWritten}
 use Rattle.tnc.specs.Calls.{putBack}
 use Rattle.tnc.proofs.Cases.{stores-wrong, unsound, is-written}
@@ -43,8 +43,8 @@ returns-3 : tie.Need-returns-3
 returns-3 c =
     let w = c .before .before .before .before .before .before .before in let i = w .before .before .before .before .before .before in let s = i .before in let f = fit s in
     let a = start (lengths s) .args in
-    (λ j. (c .put-back .ensures j, w .write-kiss .last .1 .1 .1 .0, w .write-kiss .last .1 .1 .1 .1 .0, w .write-kiss .last .1 .1 .1 .1 .1 .0))
-    ∙ ap {B = TncWritten × List ℕ × List ℕ × List ℕ} (λ (r : KissWritten × List ℕ × List ℕ × List ℕ). (putBack (a .tnc) (r .0), r .1, r .2, r .3)) (w .write-kiss .ensures)
+    (λ j. (c .put-back .ensures j, w .write-link .last .1 .1 .1 .0, w .write-link .last .1 .1 .1 .1 .0, w .write-link .last .1 .1 .1 .1 .1 .0))
+    ∙ ap {B = TncWritten × List ℕ × List ℕ × List ℕ} (λ (r : KissWritten × List ℕ × List ℕ × List ℕ). (putBack (a .tnc) (r .0), r .1, r .2, r .3)) (w .write-link .ensures)
     ∙ is-written (a .tnc) (a .channel) (a .buf .now) (a .reader .now) (a .packets .now) (a .streams .now)
     (reader-fits _ _ _ f) (packets-fit _ _ _ f) (streams-fit _ _ _ f) (not-yes (s .is-sound .ensures) (i .if2 .left))
 

@@ -1,7 +1,7 @@
 -- `tnc_air::collect` meets its contract. Assumes nothing.
 use mathlib.Core.Path.{_∙_}
 use borrow.Author.Needs.{needs}
-use Rattle.air_collect.proofs.Orders.{in-right-store}
+use Rattle.tnc_air.proofs.Orders.{in-right-store}
 use Rattle.tnc_air.proofs.Packets.{collected-as}
 use Rattle.tnc_air.proofs.collect.Statement.{statement}
 use Rattle.tnc_air.proofs.collect.Tie as tie

@@ -8,7 +8,7 @@ use lib.ListN.{length, take}
 use lib.Seq.{sets-eq, length-take-le}
 use Rattle.room.proofs.Copies.{copied-in}
 use Rattle.room.proofs.Places.{placed-length}
-use Rattle.air_collect.specs.Collected.{placeOf}
+use Rattle.tnc_air.specs.Collected.{placeOf}
 use Rattle.tnc_air.specs.Heard.{completed, packetTold, finishedAfter}
 use Rattle.tnc_air.proofs.Packets.{too-long, finished-as, count-in}
 use Rattle.tnc_air.proofs.finish.Statement.{statement}

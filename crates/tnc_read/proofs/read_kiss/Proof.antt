@@ -29,8 +29,8 @@ returns-3 c =
     let r = c .before .before .before .before in let i = r .before .before .before .before in let k = i .before in let a = k .before .before .before .before .args in
     pick-yes _ (eq-eqb _ _ (k .before .if1 .left))
     (pick-yes _ (not-yes (k .is-sound .ensures) (i .if2 .left))
-    ((λ j. (record { answer = r .read-kiss .result .answer; count = r .read-kiss .result .count; tnc = c .with-radio .ensures j }, r .read-kiss .last .1 .1 .0))
-    ∙ ap {B = TncRead × List ℕ} (λ (w : HostRead × List ℕ). (hasRead (a .tnc) (w .0), w .1)) (r .read-kiss .ensures)))
+    ((λ j. (record { answer = r .read-message .result .answer; count = r .read-message .result .count; tnc = c .with-radio .ensures j }, r .read-message .last .1 .1 .0))
+    ∙ ap {B = TncRead × List ℕ} (λ (w : HostRead × List ℕ). (hasRead (a .tnc) (w .0), w .1)) (r .read-message .ensures)))
 
 pub read-kiss-spec : {M : Type 1} → statement M
 read-kiss-spec =

@@ -10,10 +10,10 @@ use Rattle.room.proofs.Copies.{copied-in}
 use Rattle.room.proofs.Runs.{put-all}
 use Rattle.lich.specs.declared.LichCollection.{LichCollection}
 use Rattle.lich.specs.Lich.{segmentSet}
-use Rattle.stream_restart.specs.Restarted.{withFrame}
-use Rattle.stream_restart.proofs.Segments.{frame-set, frame-mask, frame-thirty, segments-in}
-use Rattle.stream_acquire.specs.Inside.{acquiredBy}
-use Rattle.stream_acquire.proofs.Assemblies.{acquired-as}
+use Rattle.tnc_stream.specs.Restarted.{withFrame}
+use Rattle.tnc_stream.proofs.Segments.{frame-set, frame-mask, frame-thirty, segments-in}
+use Rattle.tnc_stream.specs.Inside.{acquiredBy}
+use Rattle.tnc_stream.proofs.Assemblies.{acquired-as}
 use Rattle.tnc_stream.specs.Stream.{collectionAt, acquired}
 use borrow.Author.Needs.{needs}
 use Rattle.tnc_stream.proofs.acquire.Statement.{statement}

@@ -4,8 +4,8 @@ use lib.ListN.{length}
 use Rattle.state.specs.declared.Reception.{Reception}
 use Rattle.radio.specs.Box.{Box, Receiving}
 use Rattle.radio.proofs.Cases.{heard-as, frame-only}
-use Rattle.stream_restart.proofs.Segments.{restarted-as}
-use Rattle.stream_follow.proofs.Follows.{followed-as}
+use Rattle.tnc_stream.proofs.Segments.{restarted-as}
+use Rattle.tnc_stream.proofs.Follows.{followed-as}
 use Rattle.tnc_stream.specs.Stream.{receivedIn, ranged, streamHeard}
 use Rattle.tnc_stream.proofs.Frames.{index-over, number-over, received-as, mask-in}
 use borrow.Author.Needs.{needs}

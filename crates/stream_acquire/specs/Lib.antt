@@ -1,2 +1,0 @@
-pub mod Acquired
-pub mod Inside

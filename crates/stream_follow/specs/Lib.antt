@@ -1,2 +1,0 @@
-pub mod Followed
-pub mod Inside
