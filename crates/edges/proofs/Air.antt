@@ -1,7 +1,6 @@
 -- Proved: what frames from the air leave at the edges of document 01's rules. Assumes nothing.
 use mathlib.Core.Path.{refl}
 use Rattle.choice.specs.Pick.{pick, and}
-use Rattle.room.specs.Room.{copied}
 use Rattle.outgoing.specs.Message.{soundMessage}
 use Rattle.crc.specs.Crc.{shiftBit, shiftByte, crcByte, crcFrom, crcOf}
 use Rattle.lsf_layout.specs.Bits.{bitsAt}
@@ -10,19 +9,19 @@ use Rattle.lsf_layout.specs.Lsf.{fieldOf}
 use Rattle.protocol.specs.Kinds.{modeOf}
 use Rattle.kiss_layout.specs.Escape.{escByte, esc}
 use Rattle.kiss_layout.specs.Frame.{frame}
-use Rattle.lich.specs.Lich.{heardCount, withSegment, segmentSet, assembled}
+use Rattle.lich.specs.Lich.{heardCount, withSegment}
 use Rattle.radio.specs.Radio.{soundRadio, hearsBy, unlessSending}
 use Rattle.tnc_air.specs.Collected.{collectedAfter, collectedAt}
 use Rattle.air_lsf.specs.Begun.{lsfHeard}
-use Rattle.tnc_stream.specs.Inside.{restartedBy}
-use Rattle.tnc_stream.specs.Inside.{followedBy}
-use Rattle.tnc_stream.specs.Inside.{acquiredBy}
 use Rattle.tnc_stream.specs.Stream.{acquired, ranged, streamHeard}
 use Rattle.tnc_air.specs.Heard.{finishedAfter, finished, packetHeard}
+use Rattle.tnc_stream.specs.Restarted.{restarted}
+use Rattle.tnc_stream.specs.Followed.{followed}
+use Rattle.tnc_stream.specs.Acquired.{acquiredWith}
 use Rattle.edges.specs.Air.{Air}
 
 pub air : Air
-unfolding pick and copied soundMessage bitsAt typeField fieldOf modeOf heardCount withSegment segmentSet assembled shiftBit shiftByte crcByte crcFrom crcOf escByte esc frame soundRadio hearsBy unlessSending collectedAfter collectedAt lsfHeard restartedBy followedBy acquiredBy acquired ranged streamHeard finishedAfter finished packetHeard
+unfolding pick and soundMessage bitsAt typeField fieldOf modeOf heardCount withSegment shiftBit shiftByte crcByte crcFrom crcOf escByte esc frame soundRadio hearsBy unlessSending collectedAfter collectedAt lsfHeard restarted followed acquiredWith acquired ranged streamHeard finishedAfter finished packetHeard
 air =
     record {
       payload-put-one-on = λ r. refl;

@@ -23,11 +23,10 @@ use Rattle.event_line.specs.Line.{hexDigit, hexOf, flag, tailOf, lineOf, writte
 use Rattle.event_open.specs.Inside.{opened, isOpen, begins, keeps, keptRun, openRun}
 use Rattle.event_tx.specs.Tx.{frameBytes, laidOut}
 use Rattle.event_step.specs.Step.{callOf, numberOf, made, notMade, applied}
-use Rattle.event_block.specs.Block.{complete, ready, walk, blockRun}
 use Rattle.edges.specs.Events.{Events}
 
 pub events : Events
-unfolding pick and allPass soundChannel accessed runOf soundMessage hostRead soundPlace soundPackets isEmpty dataRead turn packetWalk readNext soundStreams soundSending wantsToSend soundRadio storesFit linkFits keyedUp begun packetGiven allSound txRead soundTnc tncTx tncRead number known bodyLen nextAt hexDigit hexOf flag tailOf lineOf written opened isOpen begins keeps keptRun openRun frameBytes laidOut callOf numberOf made notMade applied complete ready walk blockRun
+unfolding pick and allPass soundChannel accessed runOf soundMessage hostRead soundPlace soundPackets isEmpty dataRead turn packetWalk readNext soundStreams soundSending wantsToSend soundRadio storesFit linkFits keyedUp begun packetGiven allSound txRead soundTnc tncTx tncRead number known bodyLen nextAt hexDigit hexOf flag tailOf lineOf written opened isOpen begins keeps keptRun openRun frameBytes laidOut callOf numberOf made notMade applied
 events =
     record {
       body-of-05-is-29 = (refl, refl);
@@ -37,7 +36,5 @@ events =
       the-kind-kept = refl;
       packet-kind-3 = refl;
       delay-not-printed = refl;
-      kind-09-unknown = λ n reader packets streams rx. refl;
       room-of-255-refused = λ n reader packets streams rx. (refl, refl);
-      room-for-517 = λ w. (refl, refl);
     }

@@ -24,7 +24,6 @@ states =
       ptt-on-while-a-stream-is-heard = λ expected. refl;
       mask-of-64 = (refl, refl);
       clock-ends-all = λ now. refl;
-      later-end-counts = λ last end. refl;
     }
 
 pub saved : Saved

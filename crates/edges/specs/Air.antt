@@ -15,11 +15,11 @@ use Rattle.radio.specs.declared.Hears.the-variants.{Frame, Answer}
 use Rattle.radio.specs.Radio.{hearsBy}
 use Rattle.tnc_air.specs.Collected.{collectedAt}
 use Rattle.air_lsf.specs.Begun.{lsfHeard}
-use Rattle.tnc_stream.specs.Inside.{restartedBy}
-use Rattle.tnc_stream.specs.Inside.{followedBy}
-use Rattle.tnc_stream.specs.Inside.{acquiredBy}
 use Rattle.tnc_stream.specs.Stream.{streamHeard}
 use Rattle.tnc_air.specs.Heard.{packetHeard}
+use Rattle.tnc_stream.specs.Restarted.{restarted}
+use Rattle.tnc_stream.specs.Followed.{followed}
+use Rattle.tnc_stream.specs.Acquired.{acquiredWith}
 
 -- a radio in a state, with no message
 abbrev pub at : State → Radio
@@ -41,17 +41,17 @@ pub record Air : Type 0 where
   pub message-store-of-1712 : ((r : Radio) → hearsBy r 855 1712 ≡ Answer WrongStore) × (hearsBy (at Idle) 855 1713 ≡ Frame)
   -- acquisition restarts: six segments of five bytes stand from the store's start on
   pub segments-one-byte-on : (r : Radio) (number : ℕ) (last : Bool) (bytes : List ℕ)
-      → restartedBy r (stream 0 (replicate 5 7) number last bytes) (replicate 31 9) .1 ≡ replicate 5 7 ++ replicate 25 0 ++ 9 ∷ []
+      → restarted r (stream 0 (replicate 5 7) number last bytes) (replicate 31 9) .1 ≡ replicate 5 7 ++ replicate 25 0 ++ 9 ∷ []
   -- a packet's LSF (type bit 0 is not set) is kept from the store's start on
   pub packet-lsf-put-one-on : lsfHeard (at Idle) (replicate 30 2) (replicate 855 0) (replicate 1713 0) .1 ≡ replicate 30 2 ++ replicate 825 0
   -- an LSF (type bit 0 is stream mode) clears what went before: no number is below the one expected first
   pub stream-begins-at-1 : lsfHeard (at Idle) (replicate 30 1) (replicate 855 0) (replicate 1713 0) .0 .radio .state ≡ RxStream 0
   -- behind a frame marked as the end nothing is being received, behind another the next number is expected
   pub end-ignored : (r : Radio) (index : ℕ) (segment bytes rx out : List ℕ)
-      → (followedBy r 0 (stream index segment 0 true bytes) rx out .0 .radio .state ≡ Idle)
-      × (followedBy r 0 (stream index segment 0 false bytes) rx out .0 .radio .state ≡ RxStream 1)
+      → (followed r 0 (stream index segment 0 true bytes) rx out .0 .radio .state ≡ Idle)
+      × (followed r 0 (stream index segment 0 false bytes) rx out .0 .radio .state ≡ RxStream 1)
   -- behind the LSF that all six segments yield (its CRC is 0: of no bytes it is FFFF) the number after this frame's is expected
-  pub gathered-number-expected : (r : Radio) (out : List ℕ) → acquiredBy r (record { segments = 0xFF ∷ 0xFF ∷ replicate 28 0; mask = 63 }) 5 out .0 .radio .state ≡ RxStream 6
+  pub gathered-number-expected : (r : Radio) (out : List ℕ) → acquiredWith r (record { segments = 0xFF ∷ 0xFF ∷ replicate 28 0; mask = 63 }) 5 out .0 .radio .state ≡ RxStream 6
   -- the LICH collection comes back with one segment set: segment 1 stands behind segment 0 in the store
   pub segments-not-written : (bytes : List ℕ)
       → streamHeard (at (RxAcquiringStream 1)) (stream 1 (replicate 5 7) 0 false bytes) (replicate 855 0) (replicate 1713 0) .1 ≡ replicate 5 0 ++ replicate 5 7 ++ replicate 845 0

@@ -1,4 +1,5 @@
--- How the clock ends a transmission, and which numbers stand for a state that is saved, from document 01's "Bounds for 8" and m17core's tnc.rs. Each fact rules out the wrong answer that it is named after. Assumes nothing.
+-- How the clock ends a transmission, and which numbers stand for a state that is saved, from document 01's "Bounds for 8" and m17core's tnc.rs.
+-- Each fact rules out the wrong answer that it is named after. Assumes nothing.
 use Prim.Native.Nat.{ℕ}
 use mathlib.Core.Bool.{true, false}
 use mathlib.Core.Path.{_≡_}

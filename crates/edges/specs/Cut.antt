@@ -1,4 +1,5 @@
--- A packet's data cut into frames, from document 01's "A packet frame has 25 bytes and a counter" and its example of 26 bytes. Each fact rules out the wrong answer that it is named after. Assumes nothing.
+-- A packet's data cut into frames, from document 01's "A packet frame has 25 bytes and a counter" and its example of 26 bytes.
+-- Each fact rules out the wrong answer that it is named after. Assumes nothing.
 use Prim.Native.Nat.{ℕ}
 use mathlib.Core.Path.{_≡_}
 use lib.ListN.{replicate}

@@ -1,4 +1,5 @@
--- The event program's events and lines at the edges of document 01's "Event program". Each fact rules out the wrong answer that it is named after. Assumes nothing.
+-- The event program's events and lines at the edges of document 01's "Event program".
+-- Each fact rules out the wrong answer that it is named after. Assumes nothing.
 use Prim.Native.Nat.{ℕ}
 use mathlib.Core.Bool.{Bool, true, false}
 use mathlib.Core.Path.{_≡_}
@@ -10,7 +11,7 @@ use Rattle.state.specs.declared.State.the-variants.{Idle, TxPacket}
 use Rattle.tnc_core.specs.declared.Tnc.{Tnc}
 use Rattle.tnc_core.specs.Tnc.{newTnc}
 use Rattle.tnc_transmit.specs.Calls.{tncTx}
-use Rattle.any_calls.specs.Calls.{World, newWorld}
+use Rattle.any_calls.specs.Calls.{newWorld}
 use Rattle.event_input.specs.declared.Next.the-variants.{Complete, Cut}
 use Rattle.event_input.specs.Events.{nextAt}
 use Rattle.event_line.specs.declared.Line.the-variants.{Wrote}
@@ -18,8 +19,6 @@ use Rattle.event_line.specs.Line.{written}
 use Rattle.event_open.specs.Inside.{openRun}
 use Rattle.event_tx.specs.Tx.{ofTx}
 use Rattle.event_step.specs.Step.{applied}
-use Rattle.event_block.specs.Spot.{spot}
-use Rattle.event_block.specs.Block.{blockRun}
 
 -- a new TNC whose reader holds one byte
 abbrev pub began : Tnc
@@ -58,12 +57,6 @@ pub record Events : Type 0 where
   pub packet-kind-3 : ofTx (tncTx (holding false TxPacket true) newChannel (replicate 3420 0) (replicate 230 0)) (replicate 255 0) .0 .number ≡ 4
   -- for 08 the bytes follow: the delay, of TxDelay 10 0A
   pub delay-not-printed : ofTx (tncTx (holding true Idle false) newChannel (replicate 3420 0) (replicate 230 0)) (replicate 255 0) .1 ≡ 0x0A ∷ replicate 254 0
-  -- 09 read host bytes: it is done, not unknown
-  pub kind-09-unknown : (n : ℕ) (reader packets streams rx : List ℕ)
-      → applied 9 (n ∷ []) (newWorld reader packets streams rx (replicate 1713 0)) (replicate 255 0) .number ≡ 0
-  -- a room for 255 bytes is enough for any event; with 254 none is applied
+  -- 09 is known, and a room for 255 bytes is enough for any event; with 254 none is applied
   pub room-of-255-refused : (n : ℕ) (reader packets streams rx : List ℕ) → (applied 9 (n ∷ []) (newWorld reader packets streams rx (replicate 1713 0)) (replicate 254 0) .number ≡ 9)
       × (applied 9 (n ∷ []) (newWorld reader packets streams rx (replicate 1713 0)) (replicate 255 0) .number ≡ 0)
-  -- the longest line, of 09 with 255 bytes, has 8 + 2 × 255 bytes: where 517 are left no event is taken, where 518 are left one is
-  pub room-for-517 : (w : World) → (blockRun (8 ∷ []) (spot w (replicate 255 0) (replicate 517 0) 0) .used ≡ 0)
-      × (blockRun (8 ∷ []) (spot w (replicate 255 0) (replicate 518 0) 0) .used ≡ 1)

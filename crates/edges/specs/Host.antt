@@ -1,4 +1,5 @@
--- Frames and bytes from the host, and the reading of a message to it, from document 01's "From the host", "The reader's meaning" and "Bounds for 8" and m17core's read_kiss. Each fact rules out the wrong answer that it is named after. Assumes nothing.
+-- Frames and bytes from the host, and the reading of a message to it, from document 01's "From the host", "The reader's meaning" and "Bounds for 8" and m17core's read_kiss.
+-- Each fact rules out the wrong answer that it is named after. Assumes nothing.
 use Prim.Native.Nat.{ℕ}
 use mathlib.Core.Bool.{true, false}
 use mathlib.Core.Path.{_≡_}

@@ -1,4 +1,5 @@
--- Numbers, lines and blocks of the event program, from document 01's "Event program". Each fact rules out the wrong answer that it is named after. Assumes nothing.
+-- Numbers, lines and blocks of the event program, from document 01's "Event program".
+-- Each fact rules out the wrong answer that it is named after. Assumes nothing.
 use Prim.Native.Nat.{ℕ}
 use mathlib.Core.Path.{_≡_}
 use mathlib.Core.List.{List, [], _∷_}

@@ -1,4 +1,5 @@
--- What the queues of stream frames and of packets say at the edges of document 01's "LSF, LICH, frames", "From the host" and "To the modulator". Each fact rules out the wrong answer that it is named after. Assumes nothing.
+-- What the queues of stream frames and of packets say at the edges of document 01's "LSF, LICH, frames", "From the host" and "To the modulator".
+-- Each fact rules out the wrong answer that it is named after. Assumes nothing.
 use mathlib.Core.Bool.{true, false}
 use mathlib.Core.List.{[], _∷_, _++_}
 use mathlib.Core.Path.{_≡_}

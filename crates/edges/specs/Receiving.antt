@@ -1,4 +1,5 @@
--- What every call of the TNC with a frame from the air does, from document 01's "From the air", "Answer numbers" and "Bounds for 8". Each fact rules out the wrong answer that it is named after. Assumes nothing.
+-- What every call of the TNC with a frame from the air does, from document 01's "From the air", "Answer numbers" and "Bounds for 8".
+-- Each fact rules out the wrong answer that it is named after. Assumes nothing.
 use Prim.Native.Nat.{ℕ}
 use mathlib.Core.Bool.{true, false}
 use mathlib.Core.Logic.{_≢_}

@@ -1,4 +1,5 @@
--- What a read for the modulator says at the edges of document 01's "To the modulator", "Channel access" and answer 7. Each fact rules out the wrong answer that it is named after. Assumes nothing.
+-- What a read for the modulator says at the edges of document 01's "To the modulator", "Channel access" and answer 7.
+-- Each fact rules out the wrong answer that it is named after. Assumes nothing.
 use Prim.Native.Nat.{ℕ}
 use mathlib.Core.Bool.{true, false}
 use mathlib.Core.List.{List}

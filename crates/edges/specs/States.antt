@@ -1,4 +1,5 @@
--- What the channel, the TNC's states, the numbers that they are saved as and the message to the host say at the edges of document 01's "Channel access", "Answer numbers" and "Bounds for 8" and of m17core's tnc.rs. Each fact rules out the wrong answer that it is named after. Assumes nothing.
+-- What the channel, the TNC's states, the numbers that they are saved as and the message to the host say at the edges of document 01's "Channel access", "Answer numbers" and "Bounds for 8" and of m17core's tnc.rs.
+-- Each fact rules out the wrong answer that it is named after. Assumes nothing.
 use Prim.Native.Nat.{ℕ}
 use mathlib.Core.Bool.{Bool, true, false}
 use mathlib.Core.List.{[], _∷_}
@@ -9,7 +10,7 @@ use Rattle.channel.specs.declared.AccessAnswer.the-variants.{Sends}
 use Rattle.channel.specs.Access.{newChannel, clockSet, carrierSet, duplexSet, accessed}
 use Rattle.channel_lent.specs.Lent.{setBy}
 use Rattle.state.specs.declared.State.the-variants.{Idle, RxAcquiringStream, RxStream, TxEnding, TxEndingAtTime}
-use Rattle.state.specs.State.{transmits, soundState, timeReached, endingAt}
+use Rattle.state.specs.State.{transmits, soundState, timeReached}
 use Rattle.tnc_link.specs.Numbers.{stateNumbers, stateRead}
 use Rattle.outgoing.specs.declared.HostAnswer.the-variants.{Done as Given}
 use Rattle.outgoing.specs.Message.{hostRead}
@@ -39,8 +40,6 @@ pub record States : Type 0 where
   pub mask-of-64 : (soundState (RxAcquiringStream 63) ≡ true) × (soundState (RxAcquiringStream 64) ≡ false)
   -- the clock ends no transmission that was given no end time
   pub clock-ends-all : (now : ℕ) → timeReached TxEnding now ≡ TxEnding
-  -- of several end times the first counts
-  pub later-end-counts : (last end : ℕ) → endingAt (TxEndingAtTime last) end ≡ TxEndingAtTime last
 
 pub record Saved : Type 0 where
   -- a saved transmission that ends is one that ends, not one of packets

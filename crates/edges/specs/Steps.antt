@@ -1,4 +1,5 @@
--- What the event program's events 01 to 04 and 09 answer and print, from document 01's "Event program" and "Answer numbers". Each fact rules out the wrong answer that it is named after. Assumes nothing.
+-- What the event program's events 01 to 04 and 09 answer and print, from document 01's "Event program" and "Answer numbers".
+-- Each fact rules out the wrong answer that it is named after. Assumes nothing.
 use Prim.Native.Nat.{ℕ}
 use mathlib.Core.Bool.{Bool, true, false}
 use mathlib.Core.Path.{_≡_}

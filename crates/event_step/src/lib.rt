@@ -90,48 +90,6 @@ fn write_number(answer: WriteAnswer) -> u8
     }
 }
 
-// At most as many bytes as the body says.
-fn read_host(before: EventBox, body: &[u8], message: &[u8], bytes: &mut [u8]) -> Applied
-    ensures { λ r. ⌜ (r, now (bytes .exit)) ≡ pick (eqb (length (now (body .entry))) 1) (pick (leb MOST (length (now (bytes .entry)))) (ofRead (before .channel) (tncRead (before .tnc) (now (message .entry)) (take (getD (now (body .entry)) 0 0) (now (bytes .entry)))) (now (bytes .entry))) (refused before, now (bytes .entry))) (refused before, now (bytes .entry)) ⌝ }
-{
-    if body.len() != 1 {
-        return refuse(before);
-    }
-    if bytes.len() < MOST_BYTES {
-        return refuse(before);
-    }
-    let tnc = before.tnc;
-    let channel = before.channel;
-    let most = body[0] as usize;
-    let read = tnc_read::read_kiss(tnc, message, &mut bytes[..most]);
-    let given = read.answer;
-    let tnc_after = read.tnc;
-    answer(host_number(given), read.count, tnc_after, channel)
-}
-
-fn host_number(answer: HostAnswer) -> u8
-    ensures { λ r. ⌜ r ≡ hostNumber answer ⌝ }
-{
-    match answer {
-        HostAnswer::Done => 0,
-        HostAnswer::WrongStore => 7,
-        HostAnswer::OutOfBounds => 8,
-    }
-}
-
-// Of more than eight bytes the last eight count.
-fn number(bytes: &[u8]) -> u64
-    ensures { λ r. ⌜ r ≡ numberOf (now (bytes .entry)) ⌝ }
-{
-    let mut n: u64 = 0;
-    let mut i = 0;
-    while i < bytes.len() {
-        n = n % SEVEN_BYTES * 256 + (bytes[i] as u64);
-        i += 1;
-    }
-    n
-}
-
 fn carrier(before: EventBox, body: &[u8]) -> Applied
     ensures { λ r. ⌜ r ≡ pick (eqb (length (now (body .entry))) 1) (ofSet (before .tnc) (carrierSet (before .channel) (not (eqb (getD (now (body .entry)) 0 0) 0)))) (refused before) ⌝ }
 {
@@ -172,5 +130,47 @@ fn set_number(answer: ChannelAnswer) -> u8
         ChannelAnswer::Done => return 0,
         ChannelAnswer::OutOfRange => return 6,
         ChannelAnswer::OutOfBounds => return 8,
+    }
+}
+
+// Of more than eight bytes the last eight count.
+fn number(bytes: &[u8]) -> u64
+    ensures { λ r. ⌜ r ≡ numberOf (now (bytes .entry)) ⌝ }
+{
+    let mut n: u64 = 0;
+    let mut i = 0;
+    while i < bytes.len() {
+        n = n % SEVEN_BYTES * 256 + (bytes[i] as u64);
+        i += 1;
+    }
+    n
+}
+
+// At most as many bytes as the body says.
+fn read_host(before: EventBox, body: &[u8], message: &[u8], bytes: &mut [u8]) -> Applied
+    ensures { λ r. ⌜ (r, now (bytes .exit)) ≡ pick (eqb (length (now (body .entry))) 1) (pick (leb MOST (length (now (bytes .entry)))) (ofRead (before .channel) (tncRead (before .tnc) (now (message .entry)) (take (getD (now (body .entry)) 0 0) (now (bytes .entry)))) (now (bytes .entry))) (refused before, now (bytes .entry))) (refused before, now (bytes .entry)) ⌝ }
+{
+    if body.len() != 1 {
+        return refuse(before);
+    }
+    if bytes.len() < MOST_BYTES {
+        return refuse(before);
+    }
+    let tnc = before.tnc;
+    let channel = before.channel;
+    let most = body[0] as usize;
+    let read = tnc_read::read_kiss(tnc, message, &mut bytes[..most]);
+    let given = read.answer;
+    let tnc_after = read.tnc;
+    answer(host_number(given), read.count, tnc_after, channel)
+}
+
+fn host_number(answer: HostAnswer) -> u8
+    ensures { λ r. ⌜ r ≡ hostNumber answer ⌝ }
+{
+    match answer {
+        HostAnswer::Done => 0,
+        HostAnswer::WrongStore => 7,
+        HostAnswer::OutOfBounds => 8,
     }
 }

@@ -46,6 +46,72 @@ pub fn take_frame(host: Host, frame: &[u8], packets: &mut [u8], streams: &mut [u
     answered(after, FrameAnswer::Done)
 }
 
+fn obey(host: Host, frame: &[u8], packets: &mut [u8], streams: &mut [u8]) -> Host
+    ensures { λ r. ⌜ (r, now (packets .exit), now (streams .exit)) ≡ obeyed host (now (frame .entry)) (now (packets .entry)) (now (streams .entry)) ⌝ }
+{
+    match port(frame) {
+        PortRead::MalformedKissFrame => host,
+        PortRead::Port(number) => obey_on(host, number, frame, packets, streams),
+    }
+}
+
+fn obey_on(host: Host, number: u8, frame: &[u8], packets: &mut [u8], streams: &mut [u8]) -> Host
+    ensures { λ r. ⌜ (r, now (packets .exit), now (streams .exit)) ≡ obeyedOn number host (now (frame .entry)) (now (packets .entry)) (now (streams .entry)) ⌝ }
+{
+    if 2 < number {
+        return host;
+    }
+    match command(frame) {
+        CommandRead::MalformedKissFrame => host,
+        CommandRead::UnsupportedKissCommand => host,
+        CommandRead::Command(kind) => match kind {
+            KissCommand::DataFrame => take_data(host, number, frame, packets, streams),
+            KissCommand::TxDelay => set_tx_delay(host, frame),
+            KissCommand::P => host,
+            KissCommand::FullDuplex => set_full_duplex(host, frame),
+        },
+    }
+}
+
+fn take_data(host: Host, number: u8, frame: &[u8], packets: &mut [u8], streams: &mut [u8]) -> Host
+    ensures { λ r. ⌜ (r, now (packets .exit), now (streams .exit)) ≡ dataTaken number host (now (frame .entry)) (now (packets .entry)) (now (streams .entry)) ⌝ }
+{
+    let sending = host.sending;
+    let waiting = sending.packets;
+    if number == 0 {
+        let pushed = packet_basic::push_basic(waiting, frame, packets);
+        let after = pushed.queue;
+        return with_packets(host, after);
+    }
+    if number == 1 {
+        let pushed = packet_full::push_full(waiting, frame, packets);
+        let after = pushed.queue;
+        return with_packets(host, after);
+    }
+    let queue = sending.streams;
+    let pushed = stream_push::push(queue, frame, streams);
+    let after = pushed.queue;
+    with_streams(host, after)
+}
+
+fn with_packets(mut host: Host, queue: PacketQueue) -> Host
+    ensures { λ r. ⌜ r ≡ withPackets host queue ⌝ }
+{
+    let mut sending = host.sending;
+    sending.packets = queue;
+    host.sending = sending;
+    host
+}
+
+fn with_streams(mut host: Host, queue: StreamQueue) -> Host
+    ensures { λ r. ⌜ r ≡ withStreams host queue ⌝ }
+{
+    let mut sending = host.sending;
+    sending.streams = queue;
+    host.sending = sending;
+    host
+}
+
 fn set_tx_delay(mut host: Host, frame: &[u8]) -> Host
     ensures { λ r. ⌜ r ≡ delaySet (settingIn (now (frame .entry))) host ⌝ }
 {
@@ -92,77 +158,11 @@ fn read_setting(frame: &[u8]) -> Setting
     }
 }
 
-fn take_data(host: Host, number: u8, frame: &[u8], packets: &mut [u8], streams: &mut [u8]) -> Host
-    ensures { λ r. ⌜ (r, now (packets .exit), now (streams .exit)) ≡ dataTaken number host (now (frame .entry)) (now (packets .entry)) (now (streams .entry)) ⌝ }
-{
-    let sending = host.sending;
-    let waiting = sending.packets;
-    if number == 0 {
-        let pushed = packet_basic::push_basic(waiting, frame, packets);
-        let after = pushed.queue;
-        return with_packets(host, after);
-    }
-    if number == 1 {
-        let pushed = packet_full::push_full(waiting, frame, packets);
-        let after = pushed.queue;
-        return with_packets(host, after);
-    }
-    let queue = sending.streams;
-    let pushed = stream_push::push(queue, frame, streams);
-    let after = pushed.queue;
-    with_streams(host, after)
-}
-
-fn with_packets(mut host: Host, queue: PacketQueue) -> Host
-    ensures { λ r. ⌜ r ≡ withPackets host queue ⌝ }
-{
-    let mut sending = host.sending;
-    sending.packets = queue;
-    host.sending = sending;
-    host
-}
-
-fn with_streams(mut host: Host, queue: StreamQueue) -> Host
-    ensures { λ r. ⌜ r ≡ withStreams host queue ⌝ }
-{
-    let mut sending = host.sending;
-    sending.streams = queue;
-    host.sending = sending;
-    host
-}
-
 fn answered(host: Host, answer: FrameAnswer) -> FrameTaken
     ensures { λ r. ⌜ r ≡ record { answer = answer; host = host } ⌝ }
 {
     FrameTaken {
         answer: answer,
         host: host,
-    }
-}
-
-fn obey(host: Host, frame: &[u8], packets: &mut [u8], streams: &mut [u8]) -> Host
-    ensures { λ r. ⌜ (r, now (packets .exit), now (streams .exit)) ≡ obeyed host (now (frame .entry)) (now (packets .entry)) (now (streams .entry)) ⌝ }
-{
-    match port(frame) {
-        PortRead::MalformedKissFrame => host,
-        PortRead::Port(number) => obey_on(host, number, frame, packets, streams),
-    }
-}
-
-fn obey_on(host: Host, number: u8, frame: &[u8], packets: &mut [u8], streams: &mut [u8]) -> Host
-    ensures { λ r. ⌜ (r, now (packets .exit), now (streams .exit)) ≡ obeyedOn number host (now (frame .entry)) (now (packets .entry)) (now (streams .entry)) ⌝ }
-{
-    if 2 < number {
-        return host;
-    }
-    match command(frame) {
-        CommandRead::MalformedKissFrame => host,
-        CommandRead::UnsupportedKissCommand => host,
-        CommandRead::Command(kind) => match kind {
-            KissCommand::DataFrame => take_data(host, number, frame, packets, streams),
-            KissCommand::TxDelay => set_tx_delay(host, frame),
-            KissCommand::P => host,
-            KissCommand::FullDuplex => set_full_duplex(host, frame),
-        },
     }
 }

@@ -29,27 +29,6 @@ pub fn read_next(queue: PacketQueue, store: &[u8]) -> PacketRead
     next_frame(queue, store)
 }
 
-// The first frame of a packet's data, or of what is left of it, where its index is the one given: 25 bytes, or as the final frame all of them.
-fn first_frame(bytes: &[u8], index: usize) -> PacketFrame
-    ensures { λ r. ⌜ r ≡ chunk index (now (bytes .entry)) ⌝ }
-{
-    let mut payload = [0u8; 25];
-    if 25 < bytes.len() {
-        store::copy_in(&bytes[..25], &mut payload, 0);
-        return PacketFrame {
-            payload: payload,
-            counter: PacketFrameCounter::Frame { index: index },
-        };
-    }
-    store::copy_in(bytes, &mut payload, 0);
-    PacketFrame {
-        payload: payload,
-        counter: PacketFrameCounter::FinalFrame {
-            payload_len: bytes.len(),
-        },
-    }
-}
-
 // Passes over the places that are spent. Such a place is free from here on, so that a full queue has room again.
 fn next_frame(queue: PacketQueue, store: &[u8]) -> PacketRead
     requires { ⌜ (length (now store) ≡ STORE) × (soundQueue queue ≡ true) ⌝ }
@@ -125,6 +104,27 @@ fn data_read(queue: PacketQueue, store: &[u8]) -> PacketRead
         lsf: LsfFrame([0u8; 30]),
         frame: frame,
         queue: after,
+    }
+}
+
+// The first frame of a packet's data, or of what is left of it, where its index is the one given: 25 bytes, or as the final frame all of them.
+fn first_frame(bytes: &[u8], index: usize) -> PacketFrame
+    ensures { λ r. ⌜ r ≡ chunk index (now (bytes .entry)) ⌝ }
+{
+    let mut payload = [0u8; 25];
+    if 25 < bytes.len() {
+        store::copy_in(&bytes[..25], &mut payload, 0);
+        return PacketFrame {
+            payload: payload,
+            counter: PacketFrameCounter::Frame { index: index },
+        };
+    }
+    store::copy_in(bytes, &mut payload, 0);
+    PacketFrame {
+        payload: payload,
+        counter: PacketFrameCounter::FinalFrame {
+            payload_len: bytes.len(),
+        },
     }
 }
 

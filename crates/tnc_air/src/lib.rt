@@ -44,6 +44,20 @@ pub fn handle_packet(radio: Radio, frame: PacketFrame, rx: &mut [u8], out: &mut 
     }
 }
 
+// A frame that is not a packet's last.
+fn collect(radio: Radio, index: usize, payload: [u8; 25], rx: &mut [u8]) -> Heard
+    requires { ⌜ length (now rx) ≡ RX ⌝ }
+    ensures { λ r. ⌜ (r, now (rx .exit)) ≡ collected radio index payload (now (rx .entry)) ⌝ }
+{
+    let state = radio.state;
+    match state.reception() {
+        Reception::Nothing => return radio.turned(State::Idle),
+        Reception::Acquiring(_) => return radio.turned(State::Idle),
+        Reception::Stream(_) => return radio.turned(State::Idle),
+        Reception::Packet(count) => return collect_after(radio, count, index, payload, rx),
+    }
+}
+
 // The frame with this index, after so many others.
 fn collect_after(
     radio: Radio,
@@ -68,20 +82,6 @@ fn collect_after(
     }
     store::copy_in(&payload, rx, 30 + 25 * index);
     radio.turned(State::RxPacket(index + 1))
-}
-
-// A frame that is not a packet's last.
-fn collect(radio: Radio, index: usize, payload: [u8; 25], rx: &mut [u8]) -> Heard
-    requires { ⌜ length (now rx) ≡ RX ⌝ }
-    ensures { λ r. ⌜ (r, now (rx .exit)) ≡ collected radio index payload (now (rx .entry)) ⌝ }
-{
-    let state = radio.state;
-    match state.reception() {
-        Reception::Nothing => return radio.turned(State::Idle),
-        Reception::Acquiring(_) => return radio.turned(State::Idle),
-        Reception::Stream(_) => return radio.turned(State::Idle),
-        Reception::Packet(count) => return collect_after(radio, count, index, payload, rx),
-    }
 }
 
 // A packet's last frame: where a packet is being received, it goes to the host.

@@ -17,9 +17,9 @@ use Rattle.lich.specs.declared.SegmentSet.{SegmentSet}
 use Rattle.lich.specs.Lich.{newCollection, withSegment, segmentSet}
 use Rattle.lich.proofs.Masks.{stays-small}
 use Rattle.radio.specs.declared.Radio.{Radio}
+use Rattle.radio.specs.declared.Heard.{Heard}
 use Rattle.radio.specs.Radio.{RX}
 use Rattle.tnc_stream.specs.Restarted.{withFrame, collecting, restarted}
-use Rattle.tnc_stream.specs.Inside.{keptIn, restartedBy}
 
 module _ (f : StreamFrame) (c : LichCollection) (i : f .«lich_idx» ≤ 5) where
   pub frame-set : {s : SegmentSet} → s ≡ segmentSet c (f .«lich_idx») (f .«lich_part») → c .mask < 64 → s .collection ≡ withFrame f c
@@ -38,10 +38,11 @@ module _ (f : StreamFrame) (c : LichCollection) (i : f .«lich_idx» ≤ 5) wher
 pub segments-in : (s rx last : List ℕ) {k : Copied} → length s ≡ 30 → length rx ≡ RX → (k, last) ≡ copied s rx 0 → last ≡ over s rx
 segments-in s rx last n full e = let fit : length s ≤ length rx = omega (arith, n, full) in copied-in s rx 0 e (omega (arith, fit)) ∙ put-front rx s fit
 
--- acquisition restarts, with a frame in range and a store of the right length
-pub restarted-as : (r : Radio) (f : StreamFrame) (rx : List ℕ) → f .«lich_idx» ≤ 5 → length (f .«lich_part») ≡ 5 → length rx ≡ RX → restartedBy r f rx ≡ restarted r f rx
-unfolding restartedBy restarted
-restarted-as r f rx i five full =
-    let c = withFrame f newCollection in
-    let w = segments-in (c .segments) rx (copied (c .segments) rx 0 .1) {k = copied (c .segments) rx 0 .0} (frame-thirty f newCollection i five refl) full refl in
-    ap (keptIn r rx) (frame-set f newCollection i refl (omega arith)) ∙ (λ t. (collecting r c, w t))
+-- acquisition restarts
+pub restart-is : (r : Radio) (f : StreamFrame) (rx : List ℕ) → f .«lich_idx» ≤ 5 → length (f .«lich_part») ≡ 5 → length rx ≡ RX → {s : SegmentSet} {h : Heard} {k : Copied} {last : List ℕ}
+    → s ≡ segmentSet newCollection (f .«lich_idx») (f .«lich_part») → h ≡ collecting r (s .collection) → (k, last) ≡ copied (s .collection .segments) rx 0 → (h, last) ≡ restarted r f rx
+unfolding restarted
+restart-is r f rx i five full {s = s} {last = last} e q p =
+    let c = frame-set f newCollection i e (omega arith) in
+    let w = segments-in (s .collection .segments) rx last (ap (λ (k : LichCollection). length (k .segments)) c ∙ frame-thirty f newCollection i five refl) full p in
+    (λ t. (q t, w t)) ∙ ap (λ (k : LichCollection). (collecting r k, over (k .segments) rx)) c

@@ -19,10 +19,9 @@ ghost use mathlib.Core.Path.{_≡_};
 ghost use lib.ListN.{length};
 ghost use Rattle.radio.specs.Radio.{RX, MESSAGE};
 ghost use Rattle.tnc_stream.specs.Stream.{acquired, streamHeard};
-ghost use Rattle.tnc_stream.specs.Inside.{followedBy, acquiredBy, restartedBy};
-
-// The last number that a stream frame can have: its top bit would mark the end.
-const LAST_NUMBER: u16 = 32767;
+ghost use Rattle.tnc_stream.specs.Restarted.{restarted};
+ghost use Rattle.tnc_stream.specs.Acquired.{acquiredWith};
+ghost use Rattle.tnc_stream.specs.Followed.{followed};
 
 // A stream frame follows the one before it, or brings a segment of the LSF. While we send, it is our own.
 pub fn handle_stream(radio: Radio, frame: StreamFrame, rx: &mut [u8], out: &mut [u8]) -> Heard
@@ -40,7 +39,7 @@ pub fn handle_stream(radio: Radio, frame: StreamFrame, rx: &mut [u8], out: &mut 
                     radio: radio,
                 };
             }
-            if LAST_NUMBER < frame.frame_number {
+            if 32767 < frame.frame_number {
                 return Heard {
                     answer: AirAnswer::OutOfRange,
                     radio: radio,
@@ -59,7 +58,8 @@ pub fn handle_stream(radio: Radio, frame: StreamFrame, rx: &mut [u8], out: &mut 
 
 // Acquisition of the LSF begins anew, with this frame's segment.
 fn restart(radio: Radio, frame: StreamFrame, rx: &mut [u8]) -> Heard
-    ensures { λ r. ⌜ (r, now (rx .exit)) ≡ restartedBy radio frame (now (rx .entry)) ⌝ }
+    requires { ⌜ (frame .«lich_idx» ≤ 5) × (length (now rx) ≡ RX) ⌝ }
+    ensures { λ r. ⌜ (r, now (rx .exit)) ≡ restarted radio frame (now (rx .entry)) ⌝ }
 {
     let part = frame.lich_part;
     let set = LichCollection::new().set_segment(frame.lich_idx, part);
@@ -67,52 +67,6 @@ fn restart(radio: Radio, frame: StreamFrame, rx: &mut [u8]) -> Heard
     let segments = collection.segments;
     store::copy_in(&segments, rx, 0);
     radio.turned(State::RxAcquiringStream(collection.mask))
-}
-
-// The LSF goes to the host once all its segments have been heard and its CRC is right. This frame's data and its end are passed over.
-fn complete(radio: Radio, collection: LichCollection, number: u16, out: &mut [u8]) -> Heard
-    ensures { λ r. ⌜ (r, now (out .exit)) ≡ acquiredBy radio collection number (now (out .entry)) ⌝ }
-{
-    if LAST_NUMBER < number {
-        return Heard {
-            answer: AirAnswer::OutOfRange,
-            radio: radio,
-        };
-    }
-    let whole = collection.try_assemble();
-    let lsf = whole.bytes;
-    let answer = whole.answer;
-    match answer {
-        Assembly::Whole => {
-            if LsfFrame(lsf).check_crc() != 0 {
-                return radio.turned(State::RxAcquiringStream(collection.mask));
-            }
-            let built = new_stream_setup(&lsf, out);
-            return told(State::RxStream(number + 1), built);
-        }
-        Assembly::Missing => return radio.turned(State::RxAcquiringStream(collection.mask)),
-        Assembly::OutOfBounds => return radio.turned(State::RxAcquiringStream(collection.mask)),
-    }
-}
-
-// In a stream. A number below the expected one is of another stream.
-fn follow(radio: Radio, expected: u16, frame: StreamFrame, rx: &mut [u8], out: &mut [u8]) -> Heard
-    ensures { λ r. ⌜ (r, now (rx .exit), now (out .exit)) ≡ followedBy radio expected frame (now (rx .entry)) (now (out .entry)) ⌝ }
-{
-    if LAST_NUMBER < frame.frame_number {
-        return Heard {
-            answer: AirAnswer::OutOfRange,
-            radio: radio,
-        };
-    }
-    if frame.frame_number < expected {
-        return restart(radio, frame, rx);
-    }
-    let built = new_stream_data(frame, out);
-    if frame.end_of_stream {
-        return told(State::Idle, built);
-    }
-    told(State::RxStream(frame.frame_number + 1), built)
 }
 
 // One segment more of the LSF.
@@ -132,4 +86,40 @@ fn acquire(radio: Radio, mask: u8, frame: StreamFrame, rx: &mut [u8], out: &mut 
     let segments = collection.segments;
     store::copy_in(&segments, rx, 0);
     complete(radio, collection, frame.frame_number, out)
+}
+
+// The LSF goes to the host once all its segments have been heard and its CRC is right. This frame's data and its end are passed over.
+fn complete(radio: Radio, collection: LichCollection, number: u16, out: &mut [u8]) -> Heard
+    requires { ⌜ (collection .mask < 64) × (number ≤ 32767) × (length (now out) ≡ MESSAGE) ⌝ }
+    ensures { λ r. ⌜ (r, now (out .exit)) ≡ acquiredWith radio collection number (now (out .entry)) ⌝ }
+{
+    let whole = collection.try_assemble();
+    let lsf = whole.bytes;
+    let answer = whole.answer;
+    match answer {
+        Assembly::Whole => {
+            if LsfFrame(lsf).check_crc() != 0 {
+                return radio.turned(State::RxAcquiringStream(collection.mask));
+            }
+            let built = new_stream_setup(&lsf, out);
+            return told(State::RxStream(number + 1), built);
+        }
+        Assembly::Missing => return radio.turned(State::RxAcquiringStream(collection.mask)),
+        Assembly::OutOfBounds => return radio.turned(State::RxAcquiringStream(collection.mask)),
+    }
+}
+
+// In a stream. A number below the expected one is of another stream.
+fn follow(radio: Radio, expected: u16, frame: StreamFrame, rx: &mut [u8], out: &mut [u8]) -> Heard
+    requires { ⌜ (frame .«lich_idx» ≤ 5) × (frame .«frame_number» ≤ 32767) × (length (now rx) ≡ RX) × (length (now out) ≡ MESSAGE) ⌝ }
+    ensures { λ r. ⌜ (r, now (rx .exit), now (out .exit)) ≡ followed radio expected frame (now (rx .entry)) (now (out .entry)) ⌝ }
+{
+    if frame.frame_number < expected {
+        return restart(radio, frame, rx);
+    }
+    let built = new_stream_data(frame, out);
+    if frame.end_of_stream {
+        return told(State::Idle, built);
+    }
+    told(State::RxStream(frame.frame_number + 1), built)
 }

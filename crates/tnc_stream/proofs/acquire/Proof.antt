@@ -12,8 +12,7 @@ use Rattle.lich.specs.declared.LichCollection.{LichCollection}
 use Rattle.lich.specs.Lich.{segmentSet}
 use Rattle.tnc_stream.specs.Restarted.{withFrame}
 use Rattle.tnc_stream.proofs.Segments.{frame-set, frame-mask, frame-thirty, segments-in}
-use Rattle.tnc_stream.specs.Inside.{acquiredBy}
-use Rattle.tnc_stream.proofs.Assemblies.{acquired-as}
+use Rattle.tnc_stream.specs.Acquired.{acquiredWith}
 use Rattle.tnc_stream.specs.Stream.{collectionAt, acquired}
 use borrow.Author.Needs.{needs}
 use Rattle.tnc_stream.proofs.acquire.Statement.{statement}
@@ -45,6 +44,11 @@ module _ (p : tie.After-set-segment) where
       frame-set f found (start .pre .1)
       (p .set-segment .ensures ∙ ap (λ (x : List ℕ). segmentSet (record { segments = x; mask = a .mask }) (f .«lich_idx») (f .«lich_part»)) read) (start .pre .0)
 
+complete-requires : tie.Need-complete-requires
+complete-requires c κs =
+    let p = c .before .before .before .before .before .before .before .before in let s = start p in let f = s .args .frame in
+    (omega (arith, ap (λ (k : LichCollection). k .mask) (now-set p), frame-mask f (found p) (s .pre .1) (s .pre .0)), s .pre .2, s .pre .4)
+
 returns : tie.Need-returns
 unfolding acquired
 returns c =
@@ -53,10 +57,8 @@ returns c =
     let n = frame-thirty f (found p) (s .pre .1) (five s) (its-30 s) in
     let w : y .copy-in2 .last .1 .0 ≡ over (p .set-segment .result .collection .segments) rx =
     segments-in _ rx _ (ap (λ (k : LichCollection). length (k .segments)) e ∙ n) (s .pre .3) (y .copy-in2 .ensures) in
-    let m = acquired-as (a .radio) (withFrame f (found p)) (f .«frame_number») out (frame-mask f (found p) (s .pre .1) (s .pre .0)) (s .pre .2) n (s .pre .4) in
     (λ t. (q t .0, w t, q t .1))
-    ∙ ap (λ (k : LichCollection). let h = acquiredBy (a .radio) k (f .«frame_number») out in (h .0, over (k .segments) rx, h .1)) e
-    ∙ (λ t. (m t .0, over (withFrame f (found p) .segments) rx, m t .1))
+    ∙ ap (λ (k : LichCollection). let h = acquiredWith (a .radio) k (f .«frame_number») out in (h .0, over (k .segments) rx, h .1)) e
 
 pub acquire-spec : {M : Type 1} → statement M
-acquire-spec = tie.close (tie.spec (λ c. search needs) slice-aggregate-copy-in (λ c. search needs) (λ c κs. search needs) (λ c κs. search needs) (λ c. search needs) (λ c κs. search needs) (λ c κs. search needs) (λ c. search needs) (λ c. search needs) returns)
+acquire-spec = tie.close (tie.spec (λ c. search needs) slice-aggregate-copy-in (λ c. search needs) (λ c κs. search needs) (λ c κs. search needs) (λ c. search needs) (λ c κs. search needs) complete-requires (λ c. search needs) (λ c. search needs) returns)

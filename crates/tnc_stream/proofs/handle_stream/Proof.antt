@@ -1,22 +1,13 @@
 -- `tnc_stream::handle_stream` meets its contract. Assumes nothing.
 use mathlib.Core.Path.{_≡_, refl, sym, _∙_}
-use lib.ListN.{length}
 use Rattle.state.specs.declared.Reception.{Reception}
 use Rattle.radio.specs.Box.{Box, Receiving}
 use Rattle.radio.proofs.Cases.{heard-as, frame-only}
-use Rattle.tnc_stream.proofs.Segments.{restarted-as}
-use Rattle.tnc_stream.proofs.Follows.{followed-as}
 use Rattle.tnc_stream.specs.Stream.{receivedIn, ranged, streamHeard}
 use Rattle.tnc_stream.proofs.Frames.{index-over, number-over, received-as, mask-in}
 use borrow.Author.Needs.{needs}
 use Rattle.tnc_stream.proofs.handle_stream.Statement.{statement}
 use Rattle.tnc_stream.proofs.handle_stream.Tie as tie
-
-five : (s : tie.Start) → length (s .args .frame .«lich_part») ≡ 5
-five s = search needs
-
-sixteen : (s : tie.Start) → length (s .args .frame .«stream_data») ≡ 16
-sixteen s = search needs
 
 abbrev start : tie.After-hears → tie.Start
 start h = h .before .before .before
@@ -63,32 +54,37 @@ returns-3 c =
     let i = c .before .before in let w = i .before .before in let a = begin w .args in
     number-over (a .radio) (a .frame) (a .rx .now) (a .out .now) (i .if1 .left) refl (c .if2 .taken) ∙ as-ranged w
 
+-- a frame that is in range, and stores of the right lengths
+restart-requires : tie.Need-restart-requires
+restart-requires c κs = let k = c .before .before .before in (k .before .before .before .if1 .left, listened (heard k) .sound .its-rx)
+
+restart-requires-2 : tie.Need-restart-requires-2
+restart-requires-2 c κs = let k = c .before .before .before in (k .before .before .before .if1 .left, listened (heard k) .sound .its-rx)
+
 acquire-requires : tie.Need-acquire-requires
 acquire-requires c κs =
     let m = c .before .before .before in let k = m .before .before in let j = k .before in let i = j .before .before in let g = listened (heard k) .sound in
     (mask-in (begin (heard k) .args .radio) (m .mask .given .0 .0) (g .its-state) (k .reception .ensures) (m .mask .given .1), i .if1 .left, j .if2 .left, g .its-rx, g .its-out)
 
+follow-requires : tie.Need-follow-requires
+follow-requires c κs =
+    let k = c .before .before .before .before .before in let j = k .before in let g = listened (heard k) .sound in (j .before .before .if1 .left, j .if2 .left, g .its-rx, g .its-out)
+
 returns-4 : tie.Need-returns-4
 returns-4 c =
-    let b = c .before .before in let m = b .before .before in let k = m .before .before in let i = k .before .before .before in let s = begin (heard k) in let a = s .args in
-    let p = b .restart .ensures ∙ restarted-as (a .radio) (a .frame) (a .rx .now) (i .if1 .left) (five s) (listened (heard k) .sound .its-rx) in
-    (λ t. (p t .0, p t .1, a .out .now)) ∙ as-received k (m .enum-told2 .given .1)
+    let b = c .before .before in let m = b .before .before in let k = m .before .before in let p = b .restart .ensures in
+    (λ t. (p t .0, p t .1, begin (heard k) .args .out .now)) ∙ as-received k (m .enum-told2 .given .1)
 
 returns-5 : tie.Need-returns-5
 returns-5 c = let b = c .before .before .before .before in let m = b .before .before .before .before in b .acquire .ensures ∙ as-received (m .before .before) (m .mask .given .1)
 
 returns-6 : tie.Need-returns-6
-returns-6 c =
-    let b = c .before .before .before .before in let m = b .before .before .before .before in let k = m .before .before in let j = k .before in let i = j .before .before in
-    let s = begin (heard k) in let a = s .args in let g = listened (heard k) .sound in
-    b .follow .ensures ∙ followed-as (a .radio) (a .frame) (a .rx .now) (a .out .now) (m .expected .given .0 .0) (j .if2 .left) (i .if1 .left) (five s) (sixteen s) (g .its-rx) (g .its-out)
-    ∙ as-received k (m .expected .given .1)
+returns-6 c = let b = c .before .before .before .before in let m = b .before .before .before .before in b .follow .ensures ∙ as-received (m .before .before) (m .expected .given .1)
 
 returns-7 : tie.Need-returns-7
 returns-7 c =
-    let b = c .before .before in let m = b .before .before in let k = m .before .before in let i = k .before .before .before in let s = begin (heard k) in let a = s .args in
-    let p = b .restart2 .ensures ∙ restarted-as (a .radio) (a .frame) (a .rx .now) (i .if1 .left) (five s) (listened (heard k) .sound .its-rx) in
-    (λ t. (p t .0, p t .1, a .out .now)) ∙ as-received k (m .enum-told3 .given .1)
+    let b = c .before .before in let m = b .before .before in let k = m .before .before in let p = b .restart2 .ensures in
+    (λ t. (p t .0, p t .1, begin (heard k) .args .out .now)) ∙ as-received k (m .enum-told3 .given .1)
 
 pub handle-stream-spec : {M : Type 1} → statement M
-handle-stream-spec = tie.close (tie.spec (λ c κs. search needs) (λ c. search needs) returns (λ c. search needs) returns-2 returns-3 (λ c κs. search needs) (λ c. search needs) (λ c κs. search needs) (λ c. search needs) returns-4 (λ c. search needs) acquire-requires (λ c. search needs) (λ c. search needs) returns-5 (λ c. search needs) (λ c κs. search needs) (λ c. search needs) (λ c. search needs) returns-6 (λ c. search needs) (λ c κs. search needs) (λ c. search needs) returns-7)
+handle-stream-spec = tie.close (tie.spec (λ c κs. search needs) (λ c. search needs) returns (λ c. search needs) returns-2 returns-3 (λ c κs. search needs) (λ c. search needs) restart-requires (λ c. search needs) returns-4 (λ c. search needs) acquire-requires (λ c. search needs) (λ c. search needs) returns-5 (λ c. search needs) follow-requires (λ c. search needs) (λ c. search needs) returns-6 (λ c. search needs) restart-requires-2 (λ c. search needs) returns-7)
