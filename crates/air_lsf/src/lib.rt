@@ -22,7 +22,7 @@ pub fn handle_lsf(radio: Radio, lsf: LsfFrame, rx: &mut [u8], out: &mut [u8]) ->
             answer: answer,
             radio: radio,
         },
-        Hears::Frame => match lsf.mode() {
+        Hears::Frame => match lsf_frame::mode(lsf) {
             Mode::Packet => {
                 store::copy_in(&bytes, rx, 0);
                 return radio.turned(State::RxPacket(0));

@@ -6,7 +6,6 @@ use channel::Channel;
 use event_answer::EventBox;
 use event_session::Session;
 use libc::STDOUT_FILENO;
-use tnc_core::Tnc;
 ghost use Prim.Native.Nat.{_≤_};
 
 fn main() {
@@ -20,7 +19,7 @@ fn main() {
     let mut bytes = [0u8; 255];
     let mut session = Session {
         station: EventBox {
-            tnc: Tnc::new(),
+            tnc: tnc_new::new(),
             channel: Channel::new(),
         },
         from: 0,

@@ -52,7 +52,7 @@ pub fn follow(
     }
     let left: &[u8] = input;
     let next = event_input::next_event(&left[..held], at);
-    store::shift(input, at, held);
+    store_shift::shift(input, at, held);
     let kept = held - at;
     let more = fill(input, kept, next);
     if more == kept {

@@ -18,7 +18,7 @@ fn main() {
     crc_line(b"CRC of A: ", b"A");
     crc_line(b"CRC of 123456789: ", b"123456789");
     crc_line(b"CRC of the bytes 00 to FF: ", &every_byte());
-    lsf_line(b"LSF of port 0: ", LsfFrame::packet_basic());
+    lsf_line(b"LSF of port 0: ", lsf_frame::packet_basic());
     lich_line(b"LICH index 5: ", 5);
     lich_line(b"LICH index 6: ", 6);
     stretch_line(b"frames of a stretch of 1711 bytes: ", 1711);

@@ -54,7 +54,7 @@ fn make_room(buffer: KissBuffer, store: &mut [u8]) -> usize
     let filled = buffer.filled;
     if buffer.taken {
         let at = 1 + settle_at(&store[1..filled]);
-        store::shift(store, at, filled);
+        store_shift::shift(store, at, filled);
         return filled - at;
     }
     if filled != MAX_FRAME_LEN {

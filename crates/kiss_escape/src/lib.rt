@@ -1,7 +1,7 @@
 // Escaping, as m17core's kiss.rs has it: FEND and FESC never stand in a frame's content as themselves.
-use blocks::load16;
-use blocks::none_of;
-use blocks::store16;
+use block_load::load16;
+use block_none::none_of;
+use block_store::store16;
 use kiss_layout::Escaped;
 use kiss_layout::FEND;
 use kiss_layout::FESC;

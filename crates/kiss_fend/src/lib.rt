@@ -1,6 +1,6 @@
 // The scans for FEND that every reader of KISS bytes goes by.
-use blocks::load16;
-use blocks::none_of;
+use block_load::load16;
+use block_none::none_of;
 use kiss_layout::FEND;
 ghost use mathlib.Core.Path.{_≡_};
 ghost use Rattle.kiss_layout.specs.Scan.{isFend, notFend, runOf};

@@ -30,7 +30,7 @@ pub fn next_frame(buffer: KissBuffer, store: &mut [u8]) -> NextFrame
     let filled = buffer.filled;
     let at = from + settle_at(&store[from..filled]);
     let len = front_len(&store[at..filled]);
-    store::shift(store, at, filled);
+    store_shift::shift(store, at, filled);
     let held = filled - at;
     if len == 0 {
         return NextFrame {

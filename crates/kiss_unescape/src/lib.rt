@@ -1,7 +1,7 @@
 // Unescaping of a frame's content, as m17core's kiss.rs has it. What it gives is defined beside escaping, in `kiss_layout`.
-use blocks::load16;
-use blocks::none_of;
-use blocks::store16;
+use block_load::load16;
+use block_none::none_of;
+use block_store::store16;
 use kiss_layout::FEND;
 use kiss_layout::FESC;
 use kiss_layout::TFEND;

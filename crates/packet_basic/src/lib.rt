@@ -87,7 +87,7 @@ fn seal(store: &mut [u8], at: usize, n: usize)
     requires { ⌜ (at + ROOM ≤ length (now store)) × (n ≤ 822) ⌝ }
     ensures { λ _. ⌜ now (store .exit) ≡ sealedAt (now (store .entry)) at n ⌝ }
 {
-    let lsf = LsfFrame::packet_basic();
+    let lsf = lsf_frame::packet_basic();
     store::copy_in(&lsf.0, store, at);
     let from = at + 30;
     store[from] = RAW;

@@ -292,8 +292,8 @@ fn lsf(kind: u8, a: &[u8], v: u8, room: &mut [u8]) -> usize {
 
 fn lsf_number(kind: u8, f: LsfFrame) -> usize {
     match kind {
-        16 => return f.check_crc() as usize,
-        17 => match f.mode() {
+        16 => return lsf_frame::check_crc(f) as usize,
+        17 => match lsf_frame::mode(f) {
             Mode::Packet => return 0,
             Mode::Stream => return 1,
         },
@@ -319,7 +319,7 @@ fn lsf_set(kind: u8, v: u8, f: LsfFrame) -> LsfFrame {
         23 => return lsf_setters::set_data_type(f, data_type(v)),
         24 => return lsf_setters::set_encryption_type(f, encryption(v)),
         25 => return lsf_setters::set_channel_access_number(f, v),
-        _ => return LsfFrame::packet_basic(),
+        _ => return lsf_frame::packet_basic(),
     }
 }
 

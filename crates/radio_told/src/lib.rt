@@ -6,31 +6,26 @@ use radio::Heard;
 use radio::Radio;
 use state::State;
 ghost use mathlib.Core.Path.{_≡_};
-ghost use Rattle.radio_told.specs.Inside.{messageOf, toldOf};
+ghost use Rattle.radio_told.specs.Inside.{toldOf};
 
-// The radio in a state, with the message that was built.
+// The radio in a state, with the message that was built. A frame of ours always fits into the store, so there always is one.
 pub fn told(state: State, built: Built) -> Heard
     ensures { λ r. ⌜ r ≡ toldOf state built ⌝ }
 {
-    let outgoing = message(built);
-    Heard {
-        answer: AirAnswer::Done,
-        radio: Radio {
-            state: state,
-            outgoing: outgoing,
-        },
-    }
-}
-
-// A frame of ours always fits into the store, so there always is one.
-fn message(built: Built) -> Outgoing
-    ensures { λ r. ⌜ r ≡ messageOf built ⌝ }
-{
     match built {
-        Built::Frame(len) => Outgoing { len: len, read: 0 },
-        Built::PayloadTooBig => Outgoing::new(),
-        Built::LsfWrongSize => Outgoing::new(),
-        Built::OutOfRange => Outgoing::new(),
-        Built::NoRoom => Outgoing::new(),
+        Built::Frame(len) => return Heard {
+            answer: AirAnswer::Done,
+            radio: Radio {
+                state: state,
+                outgoing: Outgoing { len: len, read: 0 },
+            },
+        },
+        _ => return Heard {
+            answer: AirAnswer::Done,
+            radio: Radio {
+                state: state,
+                outgoing: Outgoing { len: 0, read: 0 },
+            },
+        },
     }
 }

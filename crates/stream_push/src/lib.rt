@@ -68,7 +68,7 @@ fn push_lsf(mut queue: StreamQueue, payload: [u8; 30], store: &mut [u8]) -> Stre
     requires { ⌜ length (now store) ≡ STORE ⌝ }
     ensures { λ r. ⌜ (r, now (store .exit)) ≡ lsfPushed queue payload (now (store .entry)) ⌝ }
 {
-    if LsfFrame(payload).check_crc() != 0 {
+    if lsf_frame::check_crc(LsfFrame(payload)) != 0 {
         return unchanged(StreamAnswer::Ignored, queue);
     }
     store::copy_in(&payload, store, LSF_AT);

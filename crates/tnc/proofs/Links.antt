@@ -1,4 +1,4 @@
--- The cases of `kissWritten`: each from the tests on the way to it. Assumes nothing.
+-- What `kissWritten` comes to past its tests, by what the reader answered. Assumes nothing.
 use Prim.Native.Nat.{ℕ}
 use mathlib.Core.Bool.{true, false, false≢true}
 use mathlib.Core.Path.{_≡_, refl, sym, ap, _∙_}
@@ -18,30 +18,19 @@ use Rattle.streams.specs.Queue.{STORE as STREAMS}
 use Rattle.host_record.specs.declared.Host.{Host}
 use Rattle.host_record.specs.Host.{soundHost}
 use Rattle.host_frame.specs.Promises.{Box as HostBox}
-use Rattle.link_ready.specs.Ready.{linkFits, wasTaken}
-use Rattle.link_ready.proofs.Stores.{unfit}
+use Rattle.link_ready.specs.Ready.{wasTaken}
 use Rattle.tnc_drain.specs.Drain.{readerBox, hostBox}
 use Rattle.tnc.specs.Bytes.{refused, onward, offered, kissWritten}
 
-module _ (b : KissBuffer) (h : Host) (buf reader packets streams : List ℕ) where
-  pub stores-wrong : linkFits (length reader) (length packets) (length streams) ≡ false
-      → (refused WrongStore b h, reader, packets, streams) ≡ kissWritten b h buf reader packets streams
-  unfolding kissWritten
-  stores-wrong n = unfit (length reader) (length packets) (length streams) _ n refl
-
-  module _ (r : length reader ≡ READER) (p : length packets ≡ PACKETS) (q : length streams ≡ STREAMS) where
-    pub unsound : soundHost h ≡ false → (refused OutOfBounds b h, reader, packets, streams) ≡ kissWritten b h buf reader packets streams
-    unfolding kissWritten pick
-    unsound s = rw (eq-eqb (length reader) READER r, eq-eqb (length packets) PACKETS p, eq-eqb (length streams) STREAMS q, s)
-
-    -- once the reader has answered
-    pub went : soundHost h ≡ true → (a : WriteAnswer) (w : Written) (last : List ℕ) → (w, last) ≡ written b buf reader → w .answer ≡ a
-        → onward a (w .count) (readerBox (w .buffer) last) (hostBox h packets streams) ≡ kissWritten b h buf reader packets streams
-    unfolding kissWritten pick
-    went s a w last e t =
-        rw (eq-eqb (length reader) READER r, eq-eqb (length packets) PACKETS p, eq-eqb (length streams) STREAMS q, s)
-        (ap (λ (k : WriteAnswer). onward k (w .count) (readerBox (w .buffer) last) (hostBox h packets streams)) (sym t)
-        ∙ ap (λ (k : Written × List ℕ). offered k (hostBox h packets streams)) e)
+module _ (b : KissBuffer) (h : Host) (buf reader packets streams : List ℕ) (r : length reader ≡ READER) (p : length packets ≡ PACKETS) (q : length streams ≡ STREAMS) where
+  -- once the reader has answered
+  pub went : soundHost h ≡ true → (a : WriteAnswer) (w : Written) (last : List ℕ) → (w, last) ≡ written b buf reader → w .answer ≡ a
+      → onward a (w .count) (readerBox (w .buffer) last) (hostBox h packets streams) ≡ kissWritten b h buf reader packets streams
+  unfolding kissWritten pick
+  went s a w last e t =
+      rw (eq-eqb (length reader) READER r, eq-eqb (length packets) PACKETS p, eq-eqb (length streams) STREAMS q, s)
+      (ap (λ (k : WriteAnswer). onward k (w .count) (readerBox (w .buffer) last) (hostBox h packets streams)) (sym t)
+      ∙ ap (λ (k : Written × List ℕ). offered k (hostBox h packets streams)) e)
 
 -- where the reader took nothing, nothing is taken
 pub not-onward : (a : WriteAnswer) (count : ℕ) (x : ReaderBox) (w : HostBox) → wasTaken a ≡ false

@@ -50,54 +50,26 @@ pub fn write_kiss(
     if !tnc.is_sound() {
         return not_written(WriteAnswer::OutOfBounds, tnc, channel);
     }
+    if !channel.is_sound() {
+        return not_written(WriteAnswer::OutOfBounds, tnc, channel);
+    }
     let buffer = tnc.buffer;
+    let written = kiss_buffer::write(buffer, buf, reader);
+    let answer = written.answer;
+    // A reader that took nothing is as it was.
+    if !was_taken(answer) {
+        return not_written(answer, tnc, channel);
+    }
     let sending = tnc.sending;
     let host = Host {
         sending: sending,
         channel: channel,
     };
-    let written = write_link(buffer, host, buf, reader, packets, streams);
-    put_back(tnc, written)
-}
-
-fn write_link(
-    buffer: KissBuffer,
-    host: Host,
-    buf: &[u8],
-    reader: &mut [u8],
-    packets: &mut [u8],
-    streams: &mut [u8],
-) -> KissWritten
-    ensures { λ r. ⌜ (r, now (reader .exit), now (packets .exit), now (streams .exit)) ≡ kissWritten buffer host (now (buf .entry)) (now (reader .entry)) (now (packets .entry)) (now (streams .entry)) ⌝ }
-{
-    if !link_fits(reader.len(), packets.len(), streams.len()) {
-        return KissWritten {
-            answer: WriteAnswer::WrongStore,
-            count: 0,
-            buffer: buffer,
-            host: host,
-        };
-    }
-    if !host.is_sound() {
-        return KissWritten {
-            answer: WriteAnswer::OutOfBounds,
-            count: 0,
-            buffer: buffer,
-            host: host,
-        };
-    }
-    let written = kiss_buffer::write(buffer, buf, reader);
-    let answer = written.answer;
     let held = written.buffer;
-    if !was_taken(answer) {
-        return KissWritten {
-            answer: answer,
-            count: 0,
-            buffer: held,
-            host: host,
-        };
-    }
-    take_frames(written.count, held, host, reader, packets, streams)
+    put_back(
+        tnc,
+        take_frames(written.count, held, host, reader, packets, streams),
+    )
 }
 
 // Frames are taken until none is left; then the count of taken bytes is answered. Each frame that is taken leaves fewer bytes to search.

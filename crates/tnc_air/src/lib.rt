@@ -51,10 +51,8 @@ fn collect(radio: Radio, index: usize, payload: [u8; 25], rx: &mut [u8]) -> Hear
 {
     let state = radio.state;
     match state.reception() {
-        Reception::Nothing => return radio.turned(State::Idle),
-        Reception::Acquiring(_) => return radio.turned(State::Idle),
-        Reception::Stream(_) => return radio.turned(State::Idle),
         Reception::Packet(count) => return collect_after(radio, count, index, payload, rx),
+        _ => return radio.turned(State::Idle),
     }
 }
 
@@ -97,14 +95,12 @@ fn finish(radio: Radio, len: usize, payload: [u8; 25], rx: &mut [u8], out: &mut 
     }
     let state = radio.state;
     match state.reception() {
-        Reception::Nothing => return radio.turned(State::Idle),
-        Reception::Acquiring(_) => return radio.turned(State::Idle),
-        Reception::Stream(_) => return radio.turned(State::Idle),
         Reception::Packet(count) => {
             let before = 25 * count;
             store::copy_in(&payload[..len], rx, 30 + before);
             return tell_packet(rx, before + len, out);
         }
+        _ => return radio.turned(State::Idle),
     }
 }
 

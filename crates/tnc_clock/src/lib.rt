@@ -5,8 +5,7 @@ use radio::Radio;
 use state::State;
 use tnc_core::Tnc;
 ghost use mathlib.Core.Path.{_≡_};
-ghost use Rattle.tnc_core.specs.Tnc.{withState};
-ghost use Rattle.tnc_clock.specs.Clock.{timed, nowSet, endTimeSet};
+ghost use Rattle.tnc_clock.specs.Clock.{nowSet, endTimeSet};
 ghost use Rattle.state.specs.State.{timeReached, endingAt};
 
 pub struct Timed {
@@ -22,19 +21,30 @@ pub fn set_now(tnc: Tnc, channel: Channel, now_samples: u64) -> Timed
     ensures { λ r. ⌜ r ≡ nowSet tnc channel «now_samples» ⌝ }
 {
     if !tnc.is_sound() {
-        return told_time(ChannelAnswer::OutOfBounds, tnc, channel);
+        return Timed {
+            answer: ChannelAnswer::OutOfBounds,
+            tnc: tnc,
+            channel: channel,
+        };
     }
     let set = channel.set_now(now_samples);
-    let after = set.channel;
     let answer = set.answer;
+    let after = set.channel;
     match answer {
-        ChannelAnswer::OutOfRange => told_time(ChannelAnswer::OutOfRange, tnc, after),
-        ChannelAnswer::OutOfBounds => told_time(ChannelAnswer::OutOfBounds, tnc, after),
         ChannelAnswer::Done => {
-            let radio = tnc.radio;
-            let state = radio.state;
-            let reached = at_time(state, now_samples);
-            told_time(ChannelAnswer::Done, with_state(tnc, reached), after)
+            let reached = tnc.with_radio(at_time(tnc.radio, now_samples));
+            return Timed {
+                answer: ChannelAnswer::Done,
+                tnc: reached,
+                channel: after,
+            };
+        }
+        _ => {
+            return Timed {
+                answer: answer,
+                tnc: tnc,
+                channel: after,
+            };
         }
     }
 }
@@ -43,78 +53,62 @@ pub fn set_now(tnc: Tnc, channel: Channel, now_samples: u64) -> Timed
 pub fn set_tx_end_time(tnc: Tnc, channel: Channel, in_samples: u64) -> Timed
     ensures { λ r. ⌜ r ≡ endTimeSet tnc channel «in_samples» ⌝ }
 {
-    if !tnc.is_sound() {
-        return told_time(ChannelAnswer::OutOfBounds, tnc, channel);
-    }
-    if !channel.is_sound() {
-        return told_time(ChannelAnswer::OutOfBounds, tnc, channel);
+    if !(tnc.is_sound() & channel.is_sound()) {
+        return Timed {
+            answer: ChannelAnswer::OutOfBounds,
+            tnc: tnc,
+            channel: channel,
+        };
     }
     if FARTHEST < in_samples {
-        return told_time(ChannelAnswer::OutOfRange, tnc, channel);
+        return Timed {
+            answer: ChannelAnswer::OutOfRange,
+            tnc: tnc,
+            channel: channel,
+        };
     }
-    let radio = tnc.radio;
-    let state = radio.state;
-    let ending = ending_at(state, channel.clock + in_samples);
-    told_time(ChannelAnswer::Done, with_state(tnc, ending), channel)
+    let ending = tnc.with_radio(ending_at(tnc.radio, channel.clock + in_samples));
+    Timed {
+        answer: ChannelAnswer::Done,
+        tnc: ending,
+        channel: channel,
+    }
 }
 
-// The state once the clock shows now: a transmission whose end has come is over.
-fn at_time(state: State, now_samples: u64) -> State
-    ensures { λ r. ⌜ r ≡ timeReached state «now_samples» ⌝ }
+// The radio once the clock shows now: a transmission whose end has come is over.
+fn at_time(radio: Radio, now_samples: u64) -> Radio
+    ensures { λ r. ⌜ r ≡ record { state = timeReached (radio .state) «now_samples»; outgoing = radio .outgoing } ⌝ }
 {
+    let state = radio.state;
     match state {
-        State::Idle => state,
-        State::RxAcquiringStream(_) => state,
-        State::RxStream(_) => state,
-        State::RxPacket(_) => state,
-        State::TxStream => state,
-        State::TxStreamSentEndOfStream => state,
-        State::TxPacket => state,
-        State::TxEnding => state,
         State::TxEndingAtTime(end) => {
             if end <= now_samples {
-                State::Idle
-            } else {
-                state
+                let outgoing = radio.outgoing;
+                return Radio {
+                    state: State::Idle,
+                    outgoing: outgoing,
+                };
             }
+            return radio;
         }
+        _ => return radio,
     }
 }
 
-// The state once the modulator has said when it will be done, which counts only where an end was given and no time yet.
-fn ending_at(state: State, end: u64) -> State
-    ensures { λ r. ⌜ r ≡ endingAt state end ⌝ }
+// The radio once the modulator has said when it will be done, which counts only where an end was given and no time yet.
+fn ending_at(radio: Radio, end: u64) -> Radio
+    ensures { λ r. ⌜ r ≡ record { state = endingAt (radio .state) end; outgoing = radio .outgoing } ⌝ }
 {
+    let state = radio.state;
+    let outgoing = radio.outgoing;
     match state {
-        State::Idle => state,
-        State::RxAcquiringStream(_) => state,
-        State::RxStream(_) => state,
-        State::RxPacket(_) => state,
-        State::TxStream => state,
-        State::TxStreamSentEndOfStream => state,
-        State::TxPacket => state,
-        State::TxEnding => State::TxEndingAtTime(end),
-        State::TxEndingAtTime(_) => state,
-    }
-}
-
-fn with_state(tnc: Tnc, state: State) -> Tnc
-    ensures { λ r. ⌜ r ≡ withState tnc state ⌝ }
-{
-    let before = tnc.radio;
-    let outgoing = before.outgoing;
-    tnc.with_radio(Radio {
-        state: state,
-        outgoing: outgoing,
-    })
-}
-
-fn told_time(answer: ChannelAnswer, tnc: Tnc, channel: Channel) -> Timed
-    ensures { λ r. ⌜ r ≡ timed answer tnc channel ⌝ }
-{
-    Timed {
-        answer: answer,
-        tnc: tnc,
-        channel: channel,
+        State::TxEnding => return Radio {
+            state: State::TxEndingAtTime(end),
+            outgoing: outgoing,
+        },
+        _ => return Radio {
+            state: state,
+            outgoing: outgoing,
+        },
     }
 }

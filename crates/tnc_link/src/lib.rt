@@ -49,7 +49,7 @@ pub struct EventAnswer {
 pub extern "C" fn iflazrud_tnc_new() -> Saved
     ensures { λ r. ⌜ r ≡ newSaved ⌝ }
 {
-    save(Tnc::new(), Channel::new())
+    save(tnc_new::new(), Channel::new())
 }
 
 // One event of document 01's event program: its kind and its body.

@@ -98,7 +98,7 @@ fn complete(radio: Radio, collection: LichCollection, number: u16, out: &mut [u8
     let answer = whole.answer;
     match answer {
         Assembly::Whole => {
-            if LsfFrame(lsf).check_crc() != 0 {
+            if lsf_frame::check_crc(LsfFrame(lsf)) != 0 {
                 return radio.turned(State::RxAcquiringStream(collection.mask));
             }
             let built = new_stream_setup(&lsf, out);

@@ -10,7 +10,7 @@ use Rattle.room.proofs.Copies.{copied-in}
 use Rattle.room.proofs.Places.{placed-length}
 use Rattle.tnc_air.specs.Collected.{placeOf}
 use Rattle.tnc_air.specs.Heard.{completed, packetTold, finishedAfter}
-use Rattle.tnc_air.proofs.Packets.{too-long, finished-as, count-in}
+use Rattle.tnc_air.proofs.Packets.{too-long, none-finished, finished-as, count-in}
 use Rattle.tnc_air.proofs.finish.Statement.{statement}
 use Rattle.tnc_air.proofs.finish.Tie as tie
 
@@ -40,21 +40,6 @@ module _ (w : tie.After-count) where
 returns : tie.Need-returns
 returns c = let a = c .before .before .before .args in too-long (a .radio) (a .len) (a .t3) (a .rx .now) (a .out .now) refl (c .if1 .taken)
 
-returns-2 : tie.Need-returns-2
-returns-2 c =
-    let w = c .before in let k = w .before .before in let i = k .before in let a = i .before .before .before .args in
-    (λ t. (c .turned .ensures t, a .rx .now, a .out .now)) ∙ finished-as (a .radio) (a .len) (a .t3) (a .rx .now) (a .out .now) (i .if1 .left) (k .reception .ensures) (w .enum-told .given .1)
-
-returns-3 : tie.Need-returns-3
-returns-3 c =
-    let w = c .before in let k = w .before .before in let i = k .before in let a = i .before .before .before .args in
-    (λ t. (c .turned2 .ensures t, a .rx .now, a .out .now)) ∙ finished-as (a .radio) (a .len) (a .t3) (a .rx .now) (a .out .now) (i .if1 .left) (k .reception .ensures) (w .enum-told2 .given .1)
-
-returns-4 : tie.Need-returns-4
-returns-4 c =
-    let w = c .before in let k = w .before .before in let i = k .before in let a = i .before .before .before .args in
-    (λ t. (c .turned3 .ensures t, a .rx .now, a .out .now)) ∙ finished-as (a .radio) (a .len) (a .t3) (a .rx .now) (a .out .now) (i .if1 .left) (k .reception .ensures) (w .enum-told3 .given .1)
-
 mul-before : tie.Need-mul-before
 mul-before c = omega (arith, its-count (c .before))
 
@@ -81,14 +66,38 @@ tell-packet-requires c κs =
     let y = c .before .before .before .before in let w = y .before .before .before .before in let s = start w in let a = s .args in
     (omega (arith, its-count w, short w), ap length (put y) ∙ placed-length (take (a .len) (a .t3)) (a .rx .now) (placeOf (count w)) (fits w) ∙ s .pre .1, s .pre .2)
 
-returns-5 : tie.Need-returns-5
+returns-2 : tie.Need-returns-2
 unfolding finishedAfter
-returns-5 c =
+returns-2 c =
     let b = c .before .before in let y = b .before .before .before .before .before in let w = y .before .before .before .before in let k = w .before .before in
     let a = start w .args in let q = b .tell-packet .ensures in let n = 25 * count w + a .len in
     (λ t. (q t .0, y .copy-in .last .1 .0, q t .1))
     ∙ ap (λ (d : List ℕ). (packetTold n d (a .out .now) .0, d, packetTold n d (a .out .now) .1)) (put y)
     ∙ finished-as (a .radio) (a .len) (a .t3) (a .rx .now) (a .out .now) (short w) (k .reception .ensures) (w .count .given .1)
 
+returns-3 : tie.Need-returns-3
+returns-3 c =
+    let k = c .before .before in let i = k .before in let a = i .before .before .before .args in
+    (λ t. (c .turned .ensures t, a .rx .now, a .out .now))
+    ∙ none-finished (k .reception .result) (a .radio) (a .len) (a .t3) (a .rx .now) (a .out .now) (c .before .match .keys2)
+    ∙ finished-as (a .radio) (a .len) (a .t3) (a .rx .now) (a .out .now) (i .if1 .left) (k .reception .ensures) refl
+
 pub finish-spec : {M : Type 1} → statement M
-finish-spec = tie.close (tie.spec returns (λ c κs. search needs) (λ c. search needs) (λ c κs. search needs) returns-2 (λ c. search needs) (λ c κs. search needs) returns-3 (λ c. search needs) (λ c κs. search needs) returns-4 (λ c. search needs) mul-before array-share-prefix-payload slice-aggregate-copy-in add-copy-in (λ c κs. search needs) add-tell-packet tell-packet-requires (λ c. search needs) (λ c. search needs) returns-5)
+finish-spec =
+    tie.close
+    (tie.spec
+    returns
+    (λ c κs. search needs)
+    (λ c. search needs)
+    mul-before
+    array-share-prefix-payload
+    slice-aggregate-copy-in
+    add-copy-in
+    (λ c κs. search needs)
+    add-tell-packet
+    tell-packet-requires
+    (λ c. search needs)
+    (λ c. search needs)
+    returns-2
+    (λ c κs. search needs)
+    returns-3)

@@ -1,19 +1,31 @@
 -- `tnc_clock::set_now` meets its contract. Assumes nothing.
-use mathlib.Core.Path.{_≡_, sym, ap, _∙_}
+use types.Run.{OneOf, miss}
+use denote.Enum.Declared.{tagOf}
+use Prim.Native.Nat.{ℕ}
+use mathlib.Core.List.{[], _∷_}
+use mathlib.Core.Path.{_≡_, refl, sym, ap, _∙_}
 use borrow.Author.Needs.{needs}
 use Rattle.choice.specs.Pick.{pick-yes, pick-no, not-yes, not-no}
+use Rattle.channel.specs.declared.Channel.{Channel}
 use Rattle.channel.specs.declared.ChannelAnswer.{ChannelAnswer}
 use Rattle.channel.specs.declared.ChannelAnswer.the-variants.{Done, OutOfRange, OutOfBounds as NotSet}
 use Rattle.channel.specs.declared.ChannelSet.{ChannelSet}
+use Rattle.channel.proofs.ChannelAnswer.{the-type}
 use Rattle.tnc_core.specs.declared.Tnc.{Tnc}
-use Rattle.tnc_core.specs.Tnc.{withState}
+use Rattle.tnc_core.specs.Tnc.{withRadio}
 use Rattle.tnc_clock.specs.Clock.{timed, onClock, nowSet}
 use Rattle.tnc_clock.proofs.set_now.Statement.{statement}
 use Rattle.tnc_clock.proofs.set_now.Tie as tie
 
+-- a clock that was not set ends nothing
+refused : (a : ChannelAnswer) (t : Tnc) (c : Channel) (now : ℕ) → OneOf (1 ∷ 2 ∷ []) (tagOf the-type a) → timed a t c ≡ onClock a t c now
+refused Done t c now h = absurd (miss (1 ∷ 2 ∷ []) 0 tt h)
+refused OutOfRange t c now h = refl
+refused NotSet t c now h = refl
+
 returns : tie.Need-returns
 unfolding nowSet
-returns c = pick-no _ (not-no (c .before .before .is-sound .ensures) (c .before .if1 .taken)) (c .told-time .ensures)
+returns c = pick-no _ (not-no (c .before .is-sound .ensures) (c .if1 .taken)) refl
 
 -- once the clock was set, or not
 module _ (k : tie.After-set-now) where
@@ -30,34 +42,14 @@ module _ (k : tie.After-set-now) where
       ∙ ap (λ (r : ChannelSet). onClock (r .answer) (s .tnc) (r .channel) (s .now-samples)) (k .set-now .ensures))
 
 returns-2 : tie.Need-returns-2
-returns-2 c = c .told-time2 .ensures ∙ by-answer (c .before .before .before .before) OutOfRange (c .before .enum-told .given .1)
+returns-2 c =
+    let r = c .before in let m = r .before in let k = m .before .before .before in let a = start k .args in
+    ap (λ (t : Tnc). timed Done t (k .set-now .result .channel)) (c .with-radio .ensures ∙ ap (withRadio (a .tnc)) (r .at-time .ensures)) ∙ by-answer k Done (m .enum-told .given .1)
 
 returns-3 : tie.Need-returns-3
-returns-3 c = c .told-time3 .ensures ∙ by-answer (c .before .before .before .before) NotSet (c .before .enum-told2 .given .1)
-
-returns-4 : tie.Need-returns-4
-returns-4 c =
-    let w = c .before in let r = w .before in let m = r .before .before in let k = m .before .before .before in
-    c .told-time4 .ensures
-    ∙ ap (λ (t : Tnc). timed Done t (k .set-now .result .channel)) (w .with-state .ensures ∙ ap (withState (start k .args .tnc)) (r .at-time .ensures))
-    ∙ by-answer k Done (m .enum-told3 .given .1)
+returns-3 c =
+    let k = c .before .before in let s = k .set-now .result in let a = start k .args in
+    refused (s .answer) (a .tnc) (s .channel) (a .now-samples) (c .match .keys2) ∙ by-answer k (s .answer) refl
 
 pub set-now-spec : {M : Type 1} → statement M
-set-now-spec =
-    tie.close
-    (tie.spec
-    (λ c κs. search needs)
-    (λ c κs. search needs)
-    returns
-    (λ c κs. search needs)
-    (λ c. search needs)
-    (λ c κs. search needs)
-    (λ c. search needs)
-    (λ c κs. search needs)
-    (λ c. search needs)
-    (λ c κs. search needs)
-    (λ c κs. search needs)
-    (λ c κs. search needs)
-    returns-2
-    returns-3
-    returns-4)
+set-now-spec = tie.close (tie.spec (λ c κs. search needs) returns (λ c κs. search needs) (λ c. search needs) (λ c κs. search needs) (λ c κs. search needs) returns-2 returns-3)

@@ -1,16 +1,31 @@
 -- `tnc_read::read_up_to` meets its contract. Assumes nothing.
-use Rattle.choice.specs.Pick.{tests}
-use Rattle.outgoing.specs.Message.{readUpTo}
+use Prim.Native.Nat.{ℕ}
+use mathlib.Core.Path.{_≡_, refl, ap}
+use borrow.Author.Tests.{eq-eqb, ne-eqb}
+use Rattle.choice.specs.Pick.{pick-yes, pick-no}
+use Rattle.outgoing.specs.declared.Outgoing.{Outgoing}
+use Rattle.outgoing.specs.Message.{noMessage, readUpTo}
+use Rattle.radio.specs.declared.Radio.{Radio}
 use Rattle.tnc_read.proofs.read_up_to.Statement.{statement}
 use Rattle.tnc_read.proofs.read_up_to.Tie as tie
 
-returns : tie.Need-returns
+gone : (o : Outgoing) (end : ℕ) → end ≡ o .len → noMessage ≡ readUpTo o end
 unfolding readUpTo
-returns c = search tests
+gone o end e = pick-yes _ (eq-eqb _ _ e) refl
+
+waits : (o : Outgoing) (end : ℕ) → (end ≡ o .len → ⊥) → record { len = o .len; read = end } ≡ readUpTo o end
+unfolding readUpTo
+waits o end f = pick-no _ (ne-eqb _ _ f) refl
+
+returns : tie.Need-returns
+returns c =
+    let i = c .before .before in let a = i .before .before .args in
+    ap {B = Radio} (λ (o : Outgoing). record { state = a .radio .state; outgoing = o }) (gone (a .radio .outgoing) (a .end) (i .if1 .taken))
 
 returns-2 : tie.Need-returns-2
-unfolding readUpTo
-returns-2 c = search tests
+returns-2 c =
+    let i = c .before in let a = i .before .before .args in
+    ap {B = Radio} (λ (o : Outgoing). record { state = a .radio .state; outgoing = o }) (waits (a .radio .outgoing) (a .end) (i .if1 .left))
 
 pub read-up-to-spec : {M : Type 1} → statement M
 read-up-to-spec =

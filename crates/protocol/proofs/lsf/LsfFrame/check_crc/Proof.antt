@@ -1,7 +1,0 @@
--- `protocol::lsf::LsfFrame::check_crc` meets its contract. Assumes nothing.
-use borrow.Author.Needs.{needs}
-use Rattle.protocol.proofs.lsf.LsfFrame.check_crc.Statement.{statement}
-use Rattle.protocol.proofs.lsf.LsfFrame.check_crc.Tie as tie
-
-pub check-crc-spec : {M : Type 1} → statement M
-check-crc-spec = tie.close (tie.spec (λ c. search needs) (λ c κs. search needs) (λ c. search needs))
