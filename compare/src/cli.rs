@@ -1,6 +1,6 @@
 // The command: options, the runs, the summary.
 use crate::events::{is_whole, run, split, ROWS};
-use crate::functions::{hex, Probe, Sink, NAMES};
+use crate::functions::{hex, Probe, Sink, NAMES, PROGRAMS};
 use crate::generate::{fixed, random, Reached, Stream};
 use crate::rng::Rng;
 use std::io::{Read, Write};
@@ -9,7 +9,8 @@ use std::process::Stdio;
 use std::time::{Duration, Instant};
 
 struct Options {
-    probe: Option<String>,
+    // The folder with our programs `probe` and `probe_lsf`.
+    probes: Option<String>,
     program: Option<String>,
     seed: u64,
     events: u64,
@@ -20,7 +21,7 @@ struct Options {
 
 fn options() -> Options {
     let mut o = Options {
-        probe: None,
+        probes: None,
         program: None,
         seed: 1713,
         events: 3_000_000,
@@ -31,7 +32,7 @@ fn options() -> Options {
     while let Some(word) = words.next() {
         let mut value = || words.next().unwrap_or_else(|| usage());
         match word.as_str() {
-            "--probe" => o.probe = Some(value()),
+            "--probes" => o.probes = Some(value()),
             "--program" => o.program = Some(value()),
             "--seed" => o.seed = value().parse().unwrap_or_else(|_| usage()),
             "--events" => o.events = value().parse().unwrap_or_else(|_| usage()),
@@ -48,7 +49,7 @@ fn options() -> Options {
 }
 
 fn usage() -> ! {
-    eprintln!("compare [--probe PATH] [--program PATH] [--seed N] [--events N] [--record FOLDER] [--inside-only] | --lines [--past]");
+    eprintln!("compare [--probes FOLDER] [--program PATH] [--seed N] [--events N] [--record FOLDER] [--inside-only] | --lines [--past]");
     std::process::exit(2)
 }
 
@@ -86,8 +87,8 @@ pub fn main() {
         return record(folder, o.seed);
     }
     let mut wrong = 0;
-    if let Some(path) = &o.probe {
-        wrong += compare_functions(path, o.seed);
+    if let Some(folder) = &o.probes {
+        wrong += compare_functions(folder, o.seed);
     }
     wrong += compare_events(&o);
     println!(
@@ -101,16 +102,16 @@ pub fn main() {
     std::process::exit((wrong > 0) as i32)
 }
 
-fn compare_functions(path: &str, seed: u64) -> u64 {
+fn compare_functions(folder: &str, seed: u64) -> u64 {
     let start = Instant::now();
-    let mut probe = Probe::start(path);
-    let mut sink = Sink::new(Some(&mut probe));
+    let mut probes = PROGRAMS.map(|name| Probe::start(&format!("{folder}/{name}")));
+    let mut sink = Sink::new(Some(&mut probes));
     let panics = catch_unwind(AssertUnwindSafe(|| crate::functions::all(&mut Rng::new(seed), &mut sink))).is_err();
     if panics {
         println!("UNFORESEEN: the Rust panics in a function");
     }
     let (calls, outside, wrong) = (sink.calls, sink.outside, sink.differences + panics as u64);
-    probe.end();
+    probes.into_iter().for_each(Probe::end);
     println!("functions: calls compared with the Rust; calls outside the domain, compared with document 01");
     let mut sums = (0, 0);
     for (kind, name) in NAMES {
@@ -303,9 +304,17 @@ fn record(folder: &str, seed: u64) {
     };
     let mut sink = Sink::new(None);
     crate::functions::sample(&mut Rng::new(seed), &mut sink);
-    let all = |f: fn(&crate::functions::Case) -> &[u8]| -> Vec<u8> { sink.kept.iter().flat_map(|c| f(c).iter().copied()).collect() };
-    write("probe/stdin", &all(|c| &c.request));
-    write("probe/stdout", &all(|c| &c.answer));
+    for (i, name) in PROGRAMS.iter().enumerate() {
+        let cases = || sink.kept.iter().filter(|c| c.program() == i);
+        write(
+            &format!("{name}/stdin"),
+            &cases().flat_map(|c| c.request.clone()).collect::<Vec<u8>>(),
+        );
+        write(
+            &format!("{name}/stdout"),
+            &cases().flat_map(|c| c.answer.clone()).collect::<Vec<u8>>(),
+        );
+    }
     let mut rng = Rng::new(seed);
     let tour = crate::generate::tour(&mut rng, &mut Reached::default());
     assert!(

@@ -1,4 +1,4 @@
-// Function against function: requests for the Rattle program `probe`, each with the answer that it has to give. Inside the domain that answer is the Rust's. Where
+// Function against function: requests for the Rattle programs `probe` and `probe_lsf`, each with the answer that it has to give. Inside the domain that answer is the Rust's. Where
 // one of document 01's rows or an answer 5 to 8 is met, it is what document 01 says, and the call is counted apart.
 use crate::address::{Address, Callsign};
 use crate::kiss::{inside_escape, inside_unescape, KissBuffer, KissError, KissFrame};
@@ -89,9 +89,34 @@ impl Asked {
     }
 }
 
+// Of a function that takes and gives an LSF or a LICH part by value. Lengths and rooms say nothing of it: `probe_lsf` has thirty bytes each way.
+fn by_value(kind: u8, v: u8, bytes: &[u8], number: u8, value: usize, told: &[u8], inside: bool) -> Case {
+    let thirty = |b: &[u8]| (0..30).map(|i| b.get(i).copied().unwrap_or(0)).collect::<Vec<u8>>();
+    let mut answer = vec![number];
+    answer.extend((value as u16).to_be_bytes());
+    answer.extend(thirty(told));
+    Case {
+        kind,
+        request: [vec![kind, v], thirty(bytes)].concat(),
+        care: answer.len(),
+        answer,
+        inside,
+    }
+}
+
+// The programs that are asked, by their crates' names.
+pub const PROGRAMS: [&str; 2] = ["probe", "probe_lsf"];
+
+impl Case {
+    // Which of `PROGRAMS` is asked.
+    pub fn program(&self) -> usize {
+        matches!(self.kind, 16..=31 | 48..) as usize
+    }
+}
+
 // Where cases go: compared in batches, or kept for a record.
 pub struct Sink<'a> {
-    pub probe: Option<&'a mut Probe>,
+    pub probes: Option<&'a mut [Probe; 2]>,
     pub kept: Vec<Case>,
     pub bytes: usize,
     pub calls: [u64; 256],
@@ -100,9 +125,9 @@ pub struct Sink<'a> {
 }
 
 impl<'a> Sink<'a> {
-    pub fn new(probe: Option<&'a mut Probe>) -> Self {
+    pub fn new(probes: Option<&'a mut [Probe; 2]>) -> Self {
         Sink {
-            probe,
+            probes,
             kept: vec![],
             bytes: 0,
             calls: [0; 256],
@@ -119,18 +144,26 @@ impl<'a> Sink<'a> {
             self.outside[case.kind as usize] += 1;
         }
         self.kept.push(case);
-        if self.probe.is_some() && self.bytes > 4_000_000 {
+        if self.probes.is_some() && self.bytes > 4_000_000 {
             self.flush();
         }
     }
 
     pub fn flush(&mut self) {
-        let Some(probe) = self.probe.as_mut() else { return };
-        let cases = std::mem::take(&mut self.kept);
+        if self.probes.is_none() {
+            return;
+        }
         self.bytes = 0;
+        let (first, second) = std::mem::take(&mut self.kept).into_iter().partition(|c| c.program() == 0);
+        self.compare(0, first);
+        self.compare(1, second);
+    }
+
+    fn compare(&mut self, program: usize, cases: Vec<Case>) {
+        let Some(probes) = self.probes.as_mut() else { return };
         let all: Vec<u8> = cases.iter().flat_map(|c| c.request.iter().copied()).collect();
         let want: usize = cases.iter().map(|c| c.answer.len()).sum();
-        let got = probe.ask(&all, want);
+        let got = probes[program].ask(&all, want);
         let mut at = 0;
         for case in &cases {
             let end = (at + case.answer.len()).min(got.len());
@@ -858,7 +891,7 @@ fn readers(rng: &mut Rng, sink: &mut Sink) {
 
 fn lsf_case(kind: u8, lsf: &LsfFrame, v: u8, sink: &mut Sink) {
     let mut inside = true;
-    let mut room = vec![];
+    let mut told = vec![];
     let mut f = lsf.clone();
     let value = match kind {
         16 => f.check_crc() as usize,
@@ -876,8 +909,8 @@ fn lsf_case(kind: u8, lsf: &LsfFrame, v: u8, sink: &mut Sink) {
         19 => encryption_number(f.encryption_type()),
         20 => f.channel_access_number() as usize,
         21 => {
-            room = f.meta().to_vec();
-            14
+            told = f.meta().to_vec();
+            0
         }
         _ => {
             match kind {
@@ -897,20 +930,11 @@ fn lsf_case(kind: u8, lsf: &LsfFrame, v: u8, sink: &mut Sink) {
                 25 => f.set_channel_access_number(v),
                 _ => f = LsfFrame::new_packet(&Address::Callsign(Callsign(*b"M17RT-PKT")), &Address::Broadcast),
             }
-            room = f.0.to_vec();
-            30
+            told = f.0.to_vec();
+            0
         }
     };
-    let b = if kind >= 22 { vec![v] } else { vec![] };
-    sink.put(
-        Asked {
-            kind,
-            from: 0,
-            a: lsf.0.to_vec(),
-            b,
-        }
-        .answered(0, value, room, inside),
-    );
+    sink.put(by_value(kind, v, &lsf.0, 0, value, &told, inside));
 }
 
 fn data_type_number(d: DataType) -> usize {
@@ -970,60 +994,23 @@ struct Lich {
 
 impl Lich {
     fn new(sink: &mut Sink) -> Self {
-        sink.put(
-            Asked {
-                kind: 48,
-                from: 0,
-                a: vec![],
-                b: vec![],
-            }
-            .answered(0, 0, vec![], true),
-        );
+        sink.put(by_value(48, 0, &[], 0, 0, &[], true));
         Lich {
             rust: LichCollection::new(),
         }
     }
 
-    fn set(&mut self, rng: &mut Rng, sink: &mut Sink, index: u8, part: [u8; 5]) {
-        let mut a = vec![index];
-        a.extend(part);
-        let asked = Asked {
-            kind: 49,
-            from: 0,
-            a,
-            b: vec![],
-        };
-        if index > 5 {
-            sink.put(asked.answered(6, 0, vec![], false));
-        } else {
+    fn set(&mut self, sink: &mut Sink, index: u8, part: [u8; 5]) {
+        let inside = index <= 5;
+        if inside {
             self.rust.set_segment(index, part);
-            sink.put(asked.answered(0, 0, vec![], true));
         }
-        let n = self.rust.valid_segments();
-        sink.put(
-            Asked {
-                kind: 50,
-                from: 0,
-                a: vec![],
-                b: vec![],
-            }
-            .answered(0, n, vec![], true),
-        );
-        let asked = Asked {
-            kind: 51,
-            from: rng.byte(),
-            a: vec![],
-            b: vec![],
-        };
-        let mut room = counted_up(asked.from, 31);
-        let value = match self.rust.try_assemble() {
-            None => 0,
-            Some(all) => {
-                room[..30].copy_from_slice(&all);
-                30
-            }
-        };
-        sink.put(asked.answered(0, value, room, true));
+        sink.put(by_value(49, index, &part, if inside { 0 } else { 6 }, 0, &[], inside));
+        sink.put(by_value(50, 0, &[], 0, self.rust.valid_segments() as usize, &[], true));
+        sink.put(match self.rust.try_assemble() {
+            None => by_value(51, 0, &[], 0, 0, &[], true),
+            Some(all) => by_value(51, 0, &[], 0, 30, &all, true),
+        });
     }
 }
 
@@ -1050,16 +1037,16 @@ fn liches(rng: &mut Rng, sink: &mut Sink) {
                     if rng.one_in(3) {
                         let part = rng.bytes(5, 0).try_into().unwrap();
                         let j = rng.pick(&[i, i, 0, 1, 2, 3, 4, 5, 6, 7, 255]);
-                        l.set(rng, sink, j, part);
+                        l.set(sink, j, part);
                     }
                 }
-                l.set(rng, sink, i, lsf.0[at..at + 5].try_into().unwrap());
+                l.set(sink, i, lsf.0[at..at + 5].try_into().unwrap());
             }
         }
     }
 }
 
-// --- The stored test of `probe`: a few calls of each kind, chosen by hand and by chance.
+// --- The stored tests of `probe` and `probe_lsf`: a few calls of each kind, chosen by hand and by chance.
 
 pub fn sample(rng: &mut Rng, sink: &mut Sink) {
     for text in [&b""[..], b"A", b"123456789"] {
@@ -1137,7 +1124,7 @@ pub fn sample(rng: &mut Rng, sink: &mut Sink) {
     let mut l = Lich::new(sink);
     for i in [3, 0, 6, 5, 5, 1, 4, 2] {
         let part = rng.bytes(5, 0).try_into().unwrap();
-        l.set(rng, sink, i, part);
+        l.set(sink, i, part);
     }
     let mut r = Reader::new(sink);
     let mut full = vec![0xC0, 1, 5, 0xC0];

@@ -1,9 +1,12 @@
-// Answers requests, one call each, for the run against the Rust in compare/. A request is eight bytes (kind, length of the room, what the room's bytes are counted up
-// from, lengths of two arguments; lengths are two bytes, high byte first) and the two arguments. An answer is document 01's number, a value of two bytes and the
-// whole room, so that bytes that were not written are seen too. Anything that is no request ends the program.
+// Answers requests, one call each, for the run against the Rust in compare/: the CRC, KISS frames and the reader; `probe_lsf` has the LSF and the LICH. A request is
+// eight bytes (kind, length of the room, what the room's bytes are counted up from, lengths of two arguments; lengths are two bytes, high byte first) and the two
+// arguments. An answer is document 01's number, a value of two bytes and the whole room, so that bytes that were not written are seen too. A request that is not there
+// whole ends the program.
 use kiss_calls::KissBuffer;
 use kiss_calls::NextAnswer;
+use kiss_calls::NextFrame;
 use kiss_calls::WriteAnswer;
+use kiss_calls::Written;
 use kiss_layout::Built;
 use kiss_layout::CommandRead;
 use kiss_layout::Decoded;
@@ -11,20 +14,12 @@ use kiss_layout::Escaped;
 use kiss_layout::PortRead;
 use libc::STDIN_FILENO;
 use libc::STDOUT_FILENO;
-use lich::Assembly;
-use lich::LichCollection;
-use lich::SegmentAnswer;
-use lich::ValidSegments;
-use protocol::DataType;
-use protocol::EncryptionType;
-use protocol::LsfFrame;
-use protocol::Mode;
 use protocol::StreamFrame;
-ghost use Prim.Native.Nat.{_<_};
+ghost use Prim.Native.Nat.{_<_, _≤_};
+ghost use mathlib.Core.Path.{_≡_};
+ghost use lib.ListN.{length};
 
-// An answer is one number: document 01's number times 65536, and the value.
-const VALUES: usize = 65536;
-
+// An answer is one number: document 01's number times 65536, and the value, which is less since rooms are shorter.
 const PAYLOAD_TOO_BIG: usize = 65536;
 
 const LSF_WRONG_SIZE: usize = 2 * 65536;
@@ -44,26 +39,34 @@ const OUT_OF_BOUNDS: usize = 8 * 65536;
 // What lasts from one request to the next, and the last answer.
 struct Session {
     reader: KissBuffer,
-    lich: LichCollection,
     answer: usize,
     going: bool,
 }
 
+// What the head of a request says, and whether all of it was there. The arguments are the body's bytes up to `first`, and from there to `end`.
+struct Request {
+    whole: bool,
+    kind: u8,
+    from: u8,
+    room: usize,
+    first: usize,
+    end: usize,
+}
+
+// Body and room hold whatever lengths of two bytes ask for, so that no length needs a test.
 fn main() {
-    let mut head = [0u8; 8];
-    let mut body = [0u8; 4096];
-    let mut room = [0u8; 4096];
+    let mut body = [0u8; 131072];
+    let mut room = [0u8; 65536];
     let mut store = [0u8; 1713];
     let mut s = Session {
         reader: KissBuffer::new(),
-        lich: LichCollection::new(),
         answer: 0,
         going: true,
     };
     let mut turns = u64::MAX;
     while turns > 0 {
         turns -= 1;
-        s = turn(s, &mut head, &mut body, &mut room, &mut store);
+        s = turn(s, &mut body, &mut room, &mut store);
         if !s.going {
             return;
         }
@@ -72,66 +75,62 @@ fn main() {
 
 fn turn(
     s: Session,
-    head: &mut [u8; 8],
-    body: &mut [u8; 4096],
-    room: &mut [u8; 4096],
+    body: &mut [u8; 131072],
+    room: &mut [u8; 65536],
     store: &mut [u8; 1713],
 ) -> Session {
-    if !requested(head, body) {
-        return stopped(s);
-    }
-    serve(head, s, body, room, store)
+    let r = requested(body);
+    count_up(r.from, r.room, room);
+    serve(s, r, body, room, store)
 }
 
-// Whether a request was read whole.
-fn requested(head: &mut [u8; 8], body: &mut [u8]) -> bool {
-    if io::read_full(STDIN_FILENO, head) < 8 {
-        return false;
+fn requested(body: &mut [u8]) -> Request
+    requires { ⌜ length (now body) ≡ 131072 ⌝ }
+    ensures { λ r. ⌜ (r .room < 65536) × ((r .first ≤ r .end) × (r .end < 131072)) ⌝ }
+{
+    let mut head = [0u8; 8];
+    // Nothing follows a head that is cut, so that one answer serves both reads.
+    let got = io::read_full(STDIN_FILENO, &mut head);
+    let h: &[u8] = &head;
+    let first = two(h, 4);
+    let end = first + two(h, 6);
+    let more = io::read_full(STDIN_FILENO, &mut body[..end]);
+    Request {
+        whole: (got == 8) & (more == end),
+        kind: at(h, 0),
+        from: at(h, 3),
+        room: two(h, 1),
+        first: first,
+        end: end,
     }
-    let n = two(head, 4) + two(head, 6);
-    if body.len() < n {
-        return false;
-    }
-    io::read_full(STDIN_FILENO, &mut body[..n]) == n
 }
 
-fn stopped(s: Session) -> Session {
-    let mut t = s;
-    t.going = false;
-    t
-}
-
-fn serve(head: &[u8], s: Session, body: &[u8], room: &mut [u8], store: &mut [u8; 1713]) -> Session {
-    let first = two(head, 4);
-    let end = first + two(head, 6);
-    let n = two(head, 1);
-    if body.len() < end {
-        return stopped(s);
-    }
-    if room.len() < n {
-        return stopped(s);
-    }
-    reply(
-        head,
-        &body[..first],
-        &body[first..end],
-        s,
-        &mut room[..n],
-        store,
-    )
-}
-
-fn reply(
-    head: &[u8],
-    a: &[u8],
-    b: &[u8],
-    s: Session,
+fn serve(
+    mut s: Session,
+    r: Request,
+    body: &[u8],
     room: &mut [u8],
     store: &mut [u8; 1713],
-) -> Session {
-    count_up(at(head, 3), room);
-    let mut t = ask(at(head, 0), a, b, s, room, store);
-    t.going = wrote(t.answer, room);
+) -> Session
+    requires { ⌜ (r .room < 65536) × ((r .first ≤ r .end) × (r .end < 131072)) ⌝ }
+    requires { ⌜ (length (now body) ≡ 131072) × (length (now room) ≡ 65536) ⌝ }
+{
+    s.going = r.whole;
+    if !r.whole {
+        return s;
+    }
+    let n = r.room;
+    let first = r.first;
+    let end = r.end;
+    let mut t = ask(
+        r.kind,
+        &body[..first],
+        &body[first..end],
+        s.reader,
+        &mut room[..n],
+        store,
+    );
+    t.going = wrote(t.answer, &room[..n]);
     t
 }
 
@@ -154,9 +153,11 @@ fn two(s: &[u8], i: usize) -> usize
     (at(s, i) as usize) * 256 + (at(s, i + 1) as usize)
 }
 
-fn count_up(from: u8, room: &mut [u8]) {
+fn count_up(from: u8, n: usize, room: &mut [u8; 65536])
+    requires { ⌜ n < 65536 ⌝ }
+{
     let mut i = 0;
-    while i < room.len() {
+    while i < n {
         room[i] = ((from as usize + i % 256) % 256) as u8;
         i += 1;
     }
@@ -173,29 +174,17 @@ fn ask(
     kind: u8,
     a: &[u8],
     b: &[u8],
-    s: Session,
+    reader: KissBuffer,
     room: &mut [u8],
     store: &mut [u8; 1713],
 ) -> Session {
-    if 48 <= kind {
-        return lich_step(kind, a, s, room);
+    if 16 <= kind {
+        return read_step(kind, a, reader, room, store);
     }
-    if 32 <= kind {
-        return read_step(kind, a, s, room, store);
+    if 8 <= kind {
+        return told(reader, bytes(kind, a, room));
     }
-    let mut t = s;
-    t.answer = plain(kind, a, b, room);
-    t
-}
-
-fn plain(kind: u8, a: &[u8], b: &[u8], room: &mut [u8]) -> usize {
-    if kind < 8 {
-        return built(build(kind, a, b, room));
-    }
-    if kind < 16 {
-        return bytes(kind, a, room);
-    }
-    lsf(kind, a, at(b, 0), room)
+    told(reader, built(build(kind, a, b, room)))
 }
 
 fn build(kind: u8, a: &[u8], b: &[u8], room: &mut [u8]) -> Built {
@@ -214,7 +203,7 @@ fn build(kind: u8, a: &[u8], b: &[u8], room: &mut [u8]) -> Built {
 
 fn built(r: Built) -> usize {
     match r {
-        Built::Frame(n) => n % VALUES,
+        Built::Frame(n) => n,
         Built::PayloadTooBig => PAYLOAD_TOO_BIG,
         Built::LsfWrongSize => LSF_WRONG_SIZE,
         Built::OutOfRange => OUT_OF_RANGE,
@@ -260,124 +249,48 @@ fn bytes(kind: u8, a: &[u8], room: &mut [u8]) -> usize {
             CommandRead::UnsupportedKissCommand => return UNSUPPORTED,
         },
         11 => match kiss_read::decode_payload(a, room) {
-            Decoded::Payload(n) => return n % VALUES,
+            Decoded::Payload(n) => return n,
             Decoded::MalformedKissFrame => return MALFORMED,
         },
         12 => match kiss_escape::escape(a, room) {
-            Escaped::Wrote(n) => return n % VALUES,
+            Escaped::Wrote(n) => return n,
             Escaped::NoRoom => return NO_ROOM,
         },
-        13 => return kiss_unescape::unescape(a, room) % VALUES,
-        _ => return kiss_length::escaped_len(a) % VALUES,
-    }
-}
-
-// A field's number; the meta field and a setter's LSF go into the room.
-fn lsf(kind: u8, a: &[u8], v: u8, room: &mut [u8]) -> usize {
-    let mut all = [0u8; 30];
-    store::copy_in(a, &mut all, 0);
-    let f = LsfFrame(all);
-    if kind < 21 {
-        return lsf_number(kind, f);
-    }
-    if kind == 21 {
-        store::copy_in(&lsf_fields::meta(f), room, 0);
-        return 14;
-    }
-    let set = lsf_set(kind, v, f);
-    let after = set.0;
-    store::copy_in(&after, room, 0);
-    30
-}
-
-fn lsf_number(kind: u8, f: LsfFrame) -> usize {
-    match kind {
-        16 => return lsf_frame::check_crc(f) as usize,
-        17 => match lsf_frame::mode(f) {
-            Mode::Packet => return 0,
-            Mode::Stream => return 1,
-        },
-        18 => match lsf_fields::data_type(f) {
-            DataType::Reserved => return 0,
-            DataType::Data => return 1,
-            DataType::Voice => return 2,
-            DataType::VoiceAndData => return 3,
-        },
-        19 => match lsf_fields::encryption_type(f) {
-            EncryptionType::None => return 0,
-            EncryptionType::Scrambler => return 1,
-            EncryptionType::Aes => return 2,
-            EncryptionType::Other => return 3,
-        },
-        _ => return lsf_fields::channel_access_number(f) as usize,
-    }
-}
-
-fn lsf_set(kind: u8, v: u8, f: LsfFrame) -> LsfFrame {
-    match kind {
-        22 => return lsf_setters::set_mode(f, mode(v)),
-        23 => return lsf_setters::set_data_type(f, data_type(v)),
-        24 => return lsf_setters::set_encryption_type(f, encryption(v)),
-        25 => return lsf_setters::set_channel_access_number(f, v),
-        _ => return lsf_frame::packet_basic(),
-    }
-}
-
-fn mode(v: u8) -> Mode {
-    match v {
-        0 => Mode::Packet,
-        _ => Mode::Stream,
-    }
-}
-
-fn data_type(v: u8) -> DataType {
-    match v {
-        0 => DataType::Reserved,
-        1 => DataType::Data,
-        2 => DataType::Voice,
-        _ => DataType::VoiceAndData,
-    }
-}
-
-fn encryption(v: u8) -> EncryptionType {
-    match v {
-        0 => EncryptionType::None,
-        1 => EncryptionType::Scrambler,
-        2 => EncryptionType::Aes,
-        _ => EncryptionType::Other,
+        13 => return kiss_unescape::unescape(a, room),
+        // The one value that no room bounds.
+        _ => return kiss_length::escaped_len(a) % 65536,
     }
 }
 
 // A new reader, a write, the next frame (into the room), or the reader's record as one number with its store in the room.
-fn read_step(kind: u8, a: &[u8], s: Session, room: &mut [u8], store: &mut [u8; 1713]) -> Session {
-    let reader = s.reader;
+fn read_step(
+    kind: u8,
+    a: &[u8],
+    reader: KissBuffer,
+    room: &mut [u8],
+    store: &mut [u8; 1713],
+) -> Session {
     match kind {
-        32 => return with_reader(s, KissBuffer::new(), 0),
+        32 => return told(KissBuffer::new(), 0),
         33 => {
             let w = kiss_buffer::write(reader, a, store);
-            let answer = w.answer;
-            let after = w.buffer;
-            return with_reader(s, after, write_number(answer, w.count));
+            return told(w.buffer, write_number(w));
         }
         34 => {
             let next = kiss_next::next_frame(reader, store);
-            let answer = next.answer;
-            let after = next.buffer;
-            store::copy_in(kiss_sound::frame(after, store), room, 0);
-            return with_reader(s, after, next_number(answer));
+            store::copy_in(kiss_sound::frame(next.buffer, store), room, 0);
+            return told(next.buffer, next_number(next));
         }
         _ => {
             store::copy_in(store, room, 0);
-            return with_reader(s, reader, record_number(reader));
+            return told(reader, record_number(reader));
         }
     }
 }
 
-fn with_reader(s: Session, reader: KissBuffer, answer: usize) -> Session {
-    let lich = s.lich;
+fn told(reader: KissBuffer, answer: usize) -> Session {
     Session {
         reader: reader,
-        lich: lich,
         answer: answer,
         going: true,
     }
@@ -391,9 +304,10 @@ fn record_number(reader: KissBuffer) -> usize {
     twice
 }
 
-fn write_number(answer: WriteAnswer, count: usize) -> usize {
+fn write_number(w: Written) -> usize {
+    let answer = w.answer;
     match answer {
-        WriteAnswer::Done => count % VALUES,
+        WriteAnswer::Done => w.count,
         WriteAnswer::Full => FULL,
         WriteAnswer::WrongStore => NO_ROOM,
         WriteAnswer::OutOfBounds => OUT_OF_BOUNDS,
@@ -401,66 +315,12 @@ fn write_number(answer: WriteAnswer, count: usize) -> usize {
 }
 
 // The length of a frame; 0 where there is none.
-fn next_number(answer: NextAnswer) -> usize {
+fn next_number(next: NextFrame) -> usize {
+    let answer = next.answer;
     match answer {
-        NextAnswer::Frame(n) => n % VALUES,
+        NextAnswer::Frame(n) => n,
         NextAnswer::Nothing => 0,
         NextAnswer::WrongStore => NO_ROOM,
         NextAnswer::OutOfBounds => OUT_OF_BOUNDS,
-    }
-}
-
-// A new collection, a segment set, how many were heard, or the LSF (into the room, value 30) where all were.
-fn lich_step(kind: u8, a: &[u8], s: Session, room: &mut [u8]) -> Session {
-    let lich = s.lich;
-    match kind {
-        48 => return with_lich(s, LichCollection::new(), 0),
-        49 => {
-            let set = lich.set_segment(at(a, 0), part_of(a));
-            let answer = set.answer;
-            let after = set.collection;
-            return with_lich(s, after, segment_number(answer));
-        }
-        50 => return with_lich(s, lich, heard(lich)),
-        _ => return with_lich(s, lich, assembled(lich, room)),
-    }
-}
-
-fn with_lich(s: Session, lich: LichCollection, answer: usize) -> Session {
-    let reader = s.reader;
-    Session {
-        reader: reader,
-        lich: lich,
-        answer: answer,
-        going: true,
-    }
-}
-
-fn segment_number(answer: SegmentAnswer) -> usize {
-    match answer {
-        SegmentAnswer::Done => 0,
-        SegmentAnswer::IndexOver5 => OUT_OF_RANGE,
-        SegmentAnswer::OutOfBounds => OUT_OF_BOUNDS,
-    }
-}
-
-fn heard(lich: LichCollection) -> usize {
-    match lich.valid_segments() {
-        ValidSegments::Count(k) => k % VALUES,
-        ValidSegments::OutOfBounds => OUT_OF_BOUNDS,
-    }
-}
-
-fn assembled(lich: LichCollection, room: &mut [u8]) -> usize {
-    let r = lich.try_assemble();
-    let answer = r.answer;
-    let all = r.bytes;
-    match answer {
-        Assembly::Whole => {
-            store::copy_in(&all, room, 0);
-            30
-        }
-        Assembly::Missing => 0,
-        Assembly::OutOfBounds => OUT_OF_BOUNDS,
     }
 }

@@ -4,10 +4,10 @@ use Rattle.probe.proofs.main.Statement.{statement}
 use Rattle.probe.proofs.main.Tie as tie
 
 abbrev Inv-loop : tie.InvT-loop
-Inv-loop head₀ body₀ room₀ store₀ s₀ turns₀ head body room store s turns = Unit {0}
+Inv-loop body₀ room₀ store₀ s₀ turns₀ body room store s turns = Unit {0}
 
 abbrev μ-loop : tie.MeasureT-loop
-μ-loop head₀ body₀ room₀ store₀ s₀ turns₀ head body room store s turns = turns
+μ-loop body₀ room₀ store₀ s₀ turns₀ body room store s turns = turns
 
 pub main-spec : {M : Type 1} → statement M
 main-spec =
@@ -15,7 +15,6 @@ main-spec =
     (tie.spec
     Inv-loop
     μ-loop
-    (λ c κs. search needs)
     (λ c κs. search needs)
     (λ c. search needs)
     (λ c. search needs)
