@@ -1,7 +1,7 @@
 // The TNC's call for bytes from the host, as m17core's write_kiss takes them: the reader cuts them into frames, and each is obeyed until none is left. The TNC's calls have
 // the names of m17core's SoftTnc. `Tnc` and `Channel` go in by value and come back in the answer; the large bytes stand in stores that the caller lends. Bytes to the host are
 // given by `tnc_read`, frames from the air taken by `tnc_receive`, those for the modulator given by `tnc_transmit`; set_now and set_tx_end_time are calls of `tnc_clock`, new
-// and ptt of `Tnc`, set_data_carrier_detect one of `Channel`.
+// is one of `tnc_new`, ptt one of `Tnc`, set_data_carrier_detect one of `Channel`.
 use channel::Channel;
 use host_record::Host;
 use kiss_calls::KissBuffer;
