@@ -1,4 +1,4 @@
-// The fields of a link setup frame that only a host asks for, as m17core's protocol.rs reads them. The mode is read in `protocol`, the meta field in `lsf_bytes`.
+// The fields of a link setup frame that only a host asks for, as m17core's protocol.rs reads them. The mode is read in `lsf_frame`, the meta field in `lsf_bytes`.
 use lsf_bytes::lsf_type;
 pub use lsf_bytes::meta;
 use protocol::DataType;

@@ -42,6 +42,10 @@ numbered Full e n = absurd (omega (arith, n))
 numbered WrongStore e n = absurd (omega (arith, n))
 numbered OutOfBounds e n = absurd (omega (arith, n))
 
+-- the TNC with what the host's bytes changed, and the stores beside it
+abbrev pub back : Tnc → KissWritten × List ℕ × List ℕ × List ℕ → TncWritten × List ℕ × List ℕ × List ℕ
+back t o = (putBack t (o .0), o .1, o .2, o .3)
+
 module _ (t : Tnc) (c : Channel) (buf reader packets streams : List ℕ) where
   pub stores-wrong : {x : TncWritten} → x ≡ notWritten NoRoom t c → linkFits (length reader) (length packets) (length streams) ≡ false
       → (x, reader, packets, streams) ≡ tncWritten t c buf reader packets streams
@@ -56,7 +60,7 @@ module _ (t : Tnc) (c : Channel) (buf reader packets streams : List ℕ) where
     abbrev host : KissWritten × List ℕ × List ℕ × List ℕ
     host = kissWritten (t .buffer) (record { sending = t .sending; channel = c }) buf reader packets streams
 
-    pub is-written : soundTnc t ≡ true → (putBack t (host .0), host .1, host .2, host .3) ≡ tncWritten t c buf reader packets streams
+    pub is-written : soundTnc t ≡ true → back t host ≡ tncWritten t c buf reader packets streams
     unfolding tncWritten pick
     is-written s = rw (eq-eqb (length reader) READER r, eq-eqb (length packets) PACKETS p, eq-eqb (length streams) STREAMS q, s)
 
@@ -75,10 +79,10 @@ module _ (t : Tnc) (c : Channel) (buf reader packets streams : List ℕ) where
 
       -- once the reader has answered
       pub goes : (a : WriteAnswer) (w : Written) (last : List ℕ) → (w, last) ≡ written (t .buffer) buf reader → w .answer ≡ a
-          → (let o = onward a (w .count) (readerBox (w .buffer) last) (hostBox (hostOf t c) packets streams) in (putBack t (o .0), o .1, o .2, o .3))
+          → back t (onward a (w .count) (readerBox (w .buffer) last) (hostBox (hostOf t c) packets streams))
           ≡ tncWritten t c buf reader packets streams
       goes a w last e f =
-          ap {B = TncWritten × List ℕ × List ℕ × List ℕ} (λ (o : KissWritten × List ℕ × List ℕ × List ℕ). (putBack t (o .0), o .1, o .2, o .3))
+          ap (back t)
           (went (t .buffer) (hostOf t c) buf reader packets streams r p q (host-sound .its-host) a w last e f)
           ∙ is-written s
 
@@ -92,6 +96,6 @@ module _ (t : Tnc) (c : Channel) (buf reader packets streams : List ℕ) where
           ∙ refused-keeps-all x .0 buf (numbered (written (t .buffer) buf reader .0 .answer) (sym (ap (λ (k : Written × List ℕ). wasTaken (k .0 .answer)) e) ∙ f)) .1 in
           (λ i. (g i, last, packets, streams))
           ∙ (λ i. (putBack t (refused (w .answer) (sym same i .buffer) (hostOf t c)), last, packets, streams))
-          ∙ ap {B = TncWritten × List ℕ × List ℕ × List ℕ} (λ (o : KissWritten × List ℕ × List ℕ × List ℕ). (putBack t (o .0), o .1, o .2, o .3))
+          ∙ ap (back t)
           (not-onward (w .answer) (w .count) (readerBox (w .buffer) last) (hostBox (hostOf t c) packets streams) f)
           ∙ goes (w .answer) w last e refl

@@ -6,13 +6,19 @@ use Rattle.channel.specs.declared.Channel.{Channel}
 use Rattle.channel.specs.declared.ChannelAnswer.{ChannelAnswer}
 use Rattle.channel.specs.declared.ChannelAnswer.the-variants.{Done, OutOfRange, OutOfBounds as NotSet}
 use Rattle.channel.specs.Access.{soundChannel, clockSet}
+use Rattle.state.specs.declared.State.{State}
 use Rattle.state.specs.State.{timeReached, endingAt}
+use Rattle.radio.specs.declared.Radio.{Radio}
 use Rattle.tnc_core.specs.declared.Tnc.{Tnc}
 use Rattle.tnc_core.specs.Tnc.{soundTnc, withState}
 use Rattle.tnc_clock.specs.declared.Timed.{Timed}
 
 abbrev pub timed : ChannelAnswer → Tnc → Channel → Timed
 timed a t c = record { answer = a; tnc = t; channel = c }
+
+-- the radio in another state, with the message that waits
+abbrev pub inState : Radio → State → Radio
+inState r s = record { state = s; outgoing = r .outgoing }
 
 -- ---- the clock: a transmission whose end has come is over
 

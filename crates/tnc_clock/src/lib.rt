@@ -5,7 +5,7 @@ use radio::Radio;
 use state::State;
 use tnc_core::Tnc;
 ghost use mathlib.Core.Path.{_≡_};
-ghost use Rattle.tnc_clock.specs.Clock.{nowSet, endTimeSet};
+ghost use Rattle.tnc_clock.specs.Clock.{inState, nowSet, endTimeSet};
 ghost use Rattle.state.specs.State.{timeReached, endingAt};
 
 pub struct Timed {
@@ -77,7 +77,7 @@ pub fn set_tx_end_time(tnc: Tnc, channel: Channel, in_samples: u64) -> Timed
 
 // The radio once the clock shows now: a transmission whose end has come is over.
 fn at_time(radio: Radio, now_samples: u64) -> Radio
-    ensures { λ r. ⌜ r ≡ record { state = timeReached (radio .state) «now_samples»; outgoing = radio .outgoing } ⌝ }
+    ensures { λ r. ⌜ r ≡ inState radio (timeReached (radio .state) «now_samples») ⌝ }
 {
     let state = radio.state;
     match state {
@@ -97,7 +97,7 @@ fn at_time(radio: Radio, now_samples: u64) -> Radio
 
 // The radio once the modulator has said when it will be done, which counts only where an end was given and no time yet.
 fn ending_at(radio: Radio, end: u64) -> Radio
-    ensures { λ r. ⌜ r ≡ record { state = endingAt (radio .state) end; outgoing = radio .outgoing } ⌝ }
+    ensures { λ r. ⌜ r ≡ inState radio (endingAt (radio .state) end) ⌝ }
 {
     let state = radio.state;
     let outgoing = radio.outgoing;

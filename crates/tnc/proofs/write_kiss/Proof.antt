@@ -18,10 +18,7 @@ use Rattle.link_ready.specs.Ready.{linkFits}
 use Rattle.link_ready.proofs.Stores.{reader-fits, packets-fit, streams-fit, taken-done}
 use Rattle.tnc_core.specs.Tnc.{soundTnc}
 use Rattle.tnc_drain.specs.Drain.{readerBox}
-use Rattle.tnc.specs.declared.KissWritten.{KissWritten}
-use Rattle.tnc.specs.declared.TncWritten.{TncWritten}
-use Rattle.tnc.specs.Calls.{putBack}
-use Rattle.tnc.proofs.Cases.{stores-wrong, unsound, unsound-channel, host-sound, goes, not-taken}
+use Rattle.tnc.proofs.Cases.{back, stores-wrong, unsound, unsound-channel, host-sound, goes, not-taken}
 use Rattle.tnc.proofs.write_kiss.Statement.{statement}
 use Rattle.tnc.proofs.write_kiss.Tie as tie
 
@@ -132,7 +129,7 @@ returns-5 : tie.Need-returns-5
 returns-5 c =
     let f = taken c in let i = took f in let z = was (t i) in let a = asked z .args in
     (λ j. (c .put-back .ensures j, f .take-frames .last .1 .1 .1 .0, f .take-frames .last .1 .1 .1 .1 .0, f .take-frames .last .1 .1 .1 .1 .1 .0))
-    ∙ ap {B = TncWritten × List ℕ × List ℕ × List ℕ} (λ (r : KissWritten × List ℕ × List ℕ × List ℕ). (putBack (a .tnc) (r .0), r .1, r .2, r .3)) (f .take-frames .ensures)
+    ∙ ap (back (a .tnc)) (f .take-frames .ensures)
     ∙ goes (a .tnc) (a .channel) (a .buf .now) (a .reader .now) (a .packets .now) (a .streams .now)
     (its-reader z) (its-packets z) (its-streams z) (its-tnc (h (t i))) (its-channel (t i)) Done (w (t i) .write .result) (last (t i)) (w (t i) .write .ensures) (done i)
 

@@ -11,7 +11,7 @@ use Rattle.state.specs.State.{timeReached}
 use Rattle.state.specs.declared.State.{State}
 use Rattle.state.specs.declared.State.the-variants.{Idle, RxAcquiringStream, RxStream, RxPacket, TxStream, TxStreamSentEndOfStream, TxPacket, TxEnding, TxEndingAtTime}
 use Rattle.state.proofs.State.{the-type}
-use Rattle.radio.specs.declared.Radio.{Radio}
+use Rattle.tnc_clock.specs.Clock.{inState}
 use Rattle.tnc_clock.proofs.at_time.Statement.{statement}
 use Rattle.tnc_clock.proofs.at_time.Tie as tie
 
@@ -31,22 +31,18 @@ goes-on (TxEndingAtTime end) now h = absurd (miss (0 ∷ 1 ∷ 2 ∷ 3 ∷ 4 ∷
 known : {s t r : State} (now : ℕ) → s ≡ t → r ≡ timeReached t now → r ≡ timeReached s now
 known now e f = f ∙ ap (λ (s : State). timeReached s now) (sym e)
 
--- the radio with another state
-abbrev moved : Radio → State → Radio
-moved r s = record { state = s; outgoing = r .outgoing }
-
 returns : tie.Need-returns
 returns c =
     let m = c .before .before .before in let a = m .before .before .args in
-    ap (moved (a .radio)) (known (a .now-samples) (m .state .given .1) (pick-yes _ (le-leb _ _ (c .before .if1 .taken)) refl))
+    ap (inState (a .radio)) (known (a .now-samples) (m .state .given .1) (pick-yes _ (le-leb _ _ (c .before .if1 .taken)) refl))
 
 returns-2 : tie.Need-returns-2
 returns-2 c =
     let m = c .before .before in let a = m .before .before .args in
-    ap (moved (a .radio)) (m .state .given .1 ∙ known (a .now-samples) (m .state .given .1) (pick-no _ (lt-leb _ _ (c .if1 .left)) refl))
+    ap (inState (a .radio)) (m .state .given .1 ∙ known (a .now-samples) (m .state .given .1) (pick-no _ (lt-leb _ _ (c .if1 .left)) refl))
 
 returns-3 : tie.Need-returns-3
-returns-3 c = let a = c .before .args in ap (moved (a .radio)) (goes-on (a .radio .state) (a .now-samples) (c .match .keys2))
+returns-3 c = let a = c .before .args in ap (inState (a .radio)) (goes-on (a .radio .state) (a .now-samples) (c .match .keys2))
 
 pub at-time-spec : {M : Type 1} → statement M
 at-time-spec = tie.close (tie.spec (λ c. search needs) returns returns-2 returns-3)

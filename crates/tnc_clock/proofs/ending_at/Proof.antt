@@ -9,7 +9,7 @@ use Rattle.state.specs.State.{endingAt}
 use Rattle.state.specs.declared.State.{State}
 use Rattle.state.specs.declared.State.the-variants.{Idle, RxAcquiringStream, RxStream, RxPacket, TxStream, TxStreamSentEndOfStream, TxPacket, TxEnding, TxEndingAtTime}
 use Rattle.state.proofs.State.{the-type}
-use Rattle.radio.specs.declared.Radio.{Radio}
+use Rattle.tnc_clock.specs.Clock.{inState}
 use Rattle.tnc_clock.proofs.ending_at.Statement.{statement}
 use Rattle.tnc_clock.proofs.ending_at.Tie as tie
 
@@ -25,15 +25,11 @@ goes-on TxPacket end h = refl
 goes-on TxEnding end h = absurd (miss (0 ∷ 1 ∷ 2 ∷ 3 ∷ 4 ∷ 5 ∷ 6 ∷ 8 ∷ []) 7 tt h)
 goes-on (TxEndingAtTime last) end h = refl
 
--- the radio with another state
-abbrev moved : Radio → State → Radio
-moved r s = record { state = s; outgoing = r .outgoing }
-
 returns : tie.Need-returns
-returns c = let a = c .before .before .before .args in ap (λ (s : State). moved (a .radio) (endingAt s (a .end))) (sym (c .enum-told .given .1))
+returns c = let a = c .before .before .before .args in ap (λ (s : State). inState (a .radio) (endingAt s (a .end))) (sym (c .enum-told .given .1))
 
 returns-2 : tie.Need-returns-2
-returns-2 c = let a = c .before .before .args in ap (moved (a .radio)) (goes-on (a .radio .state) (a .end) (c .match .keys2))
+returns-2 c = let a = c .before .before .args in ap (inState (a .radio)) (goes-on (a .radio .state) (a .end) (c .match .keys2))
 
 pub ending-at-spec : {M : Type 1} → statement M
 ending-at-spec = tie.close (tie.spec (λ c. search needs) returns returns-2)

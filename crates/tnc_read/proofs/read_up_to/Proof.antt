@@ -17,19 +17,15 @@ waits : (o : Outgoing) (end : ℕ) → (end ≡ o .len → ⊥) → record { len
 unfolding readUpTo
 waits o end f = pick-no _ (ne-eqb _ _ f) refl
 
+-- the radio with another message
+abbrev holding : Radio → Outgoing → Radio
+holding r o = record { state = r .state; outgoing = o }
+
 returns : tie.Need-returns
-returns c =
-    let i = c .before .before in let a = i .before .before .args in
-    ap {B = Radio} (λ (o : Outgoing). record { state = a .radio .state; outgoing = o }) (gone (a .radio .outgoing) (a .end) (i .if1 .taken))
+returns c = let i = c .before .before in let a = i .before .before .args in ap (holding (a .radio)) (gone (a .radio .outgoing) (a .end) (i .if1 .taken))
 
 returns-2 : tie.Need-returns-2
-returns-2 c =
-    let i = c .before in let a = i .before .before .args in
-    ap {B = Radio} (λ (o : Outgoing). record { state = a .radio .state; outgoing = o }) (waits (a .radio .outgoing) (a .end) (i .if1 .left))
+returns-2 c = let i = c .before in let a = i .before .before .args in ap (holding (a .radio)) (waits (a .radio .outgoing) (a .end) (i .if1 .left))
 
 pub read-up-to-spec : {M : Type 1} → statement M
-read-up-to-spec =
-    tie.close
-    (tie.spec
-    returns
-    returns-2)
+read-up-to-spec = tie.close (tie.spec returns returns-2)
