@@ -1,5 +1,7 @@
 // What the TNC does with an LSF from the air, as m17core's tnc.rs has it. A packet that is being received stands in a store of 855 bytes that the caller lends, its LSF first;
 // the message to the host in one of 1,713 bytes.
+#![tactic(auto)]
+
 ghost use Rattle.std.specs.Prelude.{◌≡◌};
 ghost use Rattle.air_lsf.specs.Begun.{lsf_heard};
 

@@ -1,4 +1,6 @@
 // Sixteen bytes put at once, as one block, so that the compiler makes one vector step of it.
+#![tactic(auto)]
+
 ghost use Rattle.std.specs.Prelude.{◌≡◌};
 ghost use Rattle.blocks.specs.Block.{stored};
 

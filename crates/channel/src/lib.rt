@@ -1,9 +1,11 @@
 // The channel, as m17core's tnc.rs has it: clock, carrier, a check that waits, and duplex. `channel_access` says whether one may send.
+#![tactic(auto)]
+
 ghost use Rattle.std.specs.Prelude.{◌≡◌};
 ghost use Rattle.channel.specs.Access.{new_channel, sound_channel, clock_set, carrier_set, duplex_set};
 
 #[repr(C)]
-#[derive(Drop)]
+#[derive(Clone, Copy)]
 pub struct Channel {
     // Now, counted in samples.
     pub clock: u64,
@@ -15,28 +17,28 @@ pub struct Channel {
     pub duplex: bool,
 }
 
-#[derive(Drop)]
+#[derive(Clone, Copy)]
 pub enum ChannelAnswer {
     Done,
     OutOfRange,
     OutOfBounds,
 }
 
-#[derive(Drop)]
+#[derive(Clone, Copy)]
 pub struct ChannelSet {
     pub answer: ChannelAnswer,
     pub channel: Channel,
 }
 
 // What `channel_access` answers is declared here, since the definitions and promises of specs/ speak of it too.
-#[derive(Drop)]
+#[derive(Clone, Copy)]
 pub enum AccessAnswer {
     Sends,
     Waits,
     OutOfBounds,
 }
 
-#[derive(Drop)]
+#[derive(Clone, Copy)]
 pub struct Accessed {
     pub answer: AccessAnswer,
     pub channel: Channel,

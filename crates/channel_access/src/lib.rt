@@ -1,4 +1,6 @@
 // Channel access, as m17core's tnc.rs has it, behind `channel`, which has the record and the definitions.
+#![tactic(auto)]
+
 ghost use Rattle.std.specs.Prelude.{true, ◌≡◌};
 ghost use Rattle.channel.specs.Access.{sound_channel, check_later, check_due, accessed};
 

@@ -1,4 +1,6 @@
 // Channel access on a record that is lent: each setter is the by-value one of `channel`, written back.
+#![tactic(auto)]
+
 ghost use Rattle.std.specs.Prelude.{◌≡◌};
 ghost use Rattle.channel.specs.Access.{clock_set, carrier_set, duplex_set};
 ghost use Rattle.channel_lent.specs.Lent.{set_by};

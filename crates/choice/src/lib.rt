@@ -1,1 +1,3 @@
 // The words that the other crates' definitions choose with, and the laws on them. No code.
+#![tactic(auto)]
+

@@ -1,4 +1,6 @@
 // The CRC of the M17 protocol specification: 16 bits, polynomial 0x5935, start 0xFFFF, high bit first, no final change.
+#![tactic(auto)]
+
 ghost use Rattle.std.specs.Prelude.{◌≡◌};
 ghost use Rattle.crc.specs.Crc.{crc_of};
 

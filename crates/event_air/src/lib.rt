@@ -1,4 +1,6 @@
 // The events of the receiver: a frame from the air. A body that is not its kind's is answered 9.
+#![tactic(auto)]
+
 ghost use Rattle.std.specs.Prelude.{◌≡◌, eqb, length};
 ghost use Rattle.choice.specs.Pick.{pick};
 ghost use Rattle.radio.specs.Radio.{air_number};

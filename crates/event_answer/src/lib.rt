@@ -1,4 +1,6 @@
 // What an event works on, and what it answers.
+#![tactic(auto)]
+
 ghost use Rattle.std.specs.Prelude.{◌≡◌};
 ghost use Rattle.event_answer.specs.Answer.{on_flag, answered, refused};
 
@@ -6,13 +8,13 @@ use channel::Channel;
 use tnc_core::{Ptt, Tnc};
 
 // What the events work on, beside the stores.
-#[derive(Drop)]
+#[derive(Clone, Copy)]
 pub struct EventBox {
     pub tnc: Tnc,
     pub channel: Channel,
 }
 
-#[derive(Drop)]
+#[derive(Clone, Copy)]
 pub struct Applied {
     pub number: u8,
     // How many bytes of the room the event prints.

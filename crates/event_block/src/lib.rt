@@ -1,4 +1,6 @@
 // The events of a block of input, each applied and its line written.
+#![tactic(auto)]
+
 ghost use Rattle.std.specs.Prelude.{◌≡◌, ◌≤◌, min, length};
 ghost use Rattle.event_step.specs.Step.{world_of};
 ghost use Rattle.event_block.specs.Spot.{spot, stepped};
@@ -8,14 +10,14 @@ ghost use Rattle.event_answer.specs.Answer.{MOST};
 use event_answer::{EventBox, LINE_LEN, MOST_BYTES};
 use event_input::Next;
 
-#[derive(Drop)]
+#[derive(Clone, Copy)]
 pub struct Turn {
     // The place behind the line.
     pub wrote: usize,
     pub after: EventBox,
 }
 
-#[derive(Drop)]
+#[derive(Clone, Copy)]
 pub struct Block {
     // How many bytes of the block were used, and how many written.
     pub used: usize,

@@ -1,4 +1,6 @@
 // Where a line ends, and what is printed where the input ends.
+#![tactic(auto)]
+
 ghost use Rattle.std.specs.Prelude.{◌≡◌};
 ghost use Rattle.event_answer.specs.Answer.{keyed};
 ghost use Rattle.event_end.specs.End.{place_after, last_line};

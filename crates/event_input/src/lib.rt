@@ -1,9 +1,11 @@
 // The event program's input: what stands at a place of it.
+#![tactic(auto)]
+
 ghost use Rattle.std.specs.Prelude.{◌≡◌};
 ghost use Rattle.event_input.specs.Events.{body_len, next_at};
 
 // What stands at a place of the input. The body of a whole event goes from start up to next.
-#[derive(Drop)]
+#[derive(Clone, Copy)]
 pub enum Next {
     Complete { kind: u8, start: usize, next: usize },
     Cut(u8),

@@ -1,8 +1,10 @@
 // The line that an event prints.
+#![tactic(auto)]
+
 ghost use Rattle.std.specs.Prelude.{◌≡◌, ◌+◌, ◌<◌, ◌≤◌, length};
 ghost use Rattle.event_line.specs.Line.{hex_digit, tail_of, stored, fits, written};
 
-#[derive(Drop)]
+#[derive(Clone, Copy)]
 pub enum Line {
     // The place behind the line.
     Wrote(usize),

@@ -1,4 +1,6 @@
 // A run of events 01 whose bytes complete no frame: each byte is kept, its line is put, and nothing else changes, so that only the reader's store and its count are touched.
+#![tactic(auto)]
+
 ghost use Rattle.std.specs.Prelude.{◌≡◌, ◌≤◌, leb, length, drop};
 ghost use Rattle.choice.specs.Pick.{and};
 ghost use Rattle.event_open.specs.Inside.{is_open, begins, kept_run, open_run};
@@ -9,7 +11,7 @@ use kiss_layout::FEND;
 // The kind of an event that brings a byte from the host.
 const HOST: u8 = 1;
 
-#[derive(Drop)]
+#[derive(Clone, Copy)]
 pub struct Opened {
     // The place in the input behind the events taken, and the place behind their lines.
     pub used: usize,
@@ -17,7 +19,7 @@ pub struct Opened {
     pub after: EventBox,
 }
 
-#[derive(Drop)]
+#[derive(Clone, Copy)]
 pub struct Run {
     pub used: usize,
     pub wrote: usize,

@@ -1,4 +1,6 @@
 // The body of event 06 and the packet frame that it stands for. The modulator's packet frames are printed in the same layout.
+#![tactic(auto)]
+
 ghost use Rattle.std.specs.Prelude.{◌≡◌};
 ghost use Rattle.event_packet.specs.Packet.{counter_byte, packet_of, packet_body};
 

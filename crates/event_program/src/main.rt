@@ -2,6 +2,8 @@
 // memory and one read and write serve thousands of events. compare/ (--record) wrote its files stdin and stdout: a stream that begins with document 01's example and meets
 // each rule of the TNC inside the domain of demand 2, with the Rust's lines; then, with document 01's, a full queue sent, what is answered 6 beside the nearest that is taken,
 // and a body that is cut.
+#![tactic(auto)]
+
 ghost use Rattle.std.specs.Prelude.{◌≤◌};
 
 use channel::Channel;

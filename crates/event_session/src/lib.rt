@@ -1,4 +1,6 @@
 // What a run holds of its input between blocks, and what follows a block: what is held still, more input, or the end.
+#![tactic(auto)]
+
 ghost use Rattle.std.specs.Prelude.{ℕ, ◌≤◌, false, ◌≡◌, length, take};
 ghost use Rattle.event_input.specs.declared.Next.TheVariants.{Unknown};
 ghost use Rattle.event_input.specs.Events.{next_at};
@@ -8,7 +10,7 @@ use event_input::Next;
 use libc::{STDIN_FILENO, STDOUT_FILENO};
 
 // The bytes of the input that are held and not used stand from index from up to index held.
-#[derive(Drop)]
+#[derive(Clone, Copy)]
 pub struct Session {
     pub station: EventBox,
     pub from: usize,

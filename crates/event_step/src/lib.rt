@@ -1,4 +1,6 @@
 // One event applied to the TNC.
+#![tactic(auto)]
+
 ghost use Rattle.std.specs.Prelude.{◌≡◌, not, eqb, leb, length, get_or, take};
 ghost use Rattle.event_step.specs.Step.{world_of, turn_of, applied};
 ghost use Rattle.choice.specs.Pick.{pick};

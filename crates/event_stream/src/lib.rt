@@ -1,4 +1,6 @@
 // The body of event 07 and the stream frame that it stands for. The modulator's stream frames are printed in the same layout.
+#![tactic(auto)]
+
 ghost use Rattle.std.specs.Prelude.{◌≡◌};
 ghost use Rattle.streams.specs.Layout.{bytes_of, frame_of};
 

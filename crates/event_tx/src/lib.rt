@@ -1,4 +1,6 @@
 // The event of the modulator: a read of its next frame, laid out in bytes. A body, or a room for fewer than 255 bytes, is answered 9.
+#![tactic(auto)]
+
 ghost use Rattle.std.specs.Prelude.{◌≤◌, ◌≡◌, leb, eqb, length};
 ghost use Rattle.choice.specs.Pick.{pick};
 ghost use Rattle.tnc_modulator.specs.Modulator.{kind_number};

@@ -1,4 +1,6 @@
 // Runs document 01's unstarred examples and the M17 specification's CRC vectors, one to a line. The file stdout has what those documents say.
+#![tactic(auto)]
+
 ghost use Rattle.std.specs.Prelude.{◌≡◌, ℕ, ◌<◌, get_or};
 
 use channel::{AccessAnswer, Channel};
@@ -91,7 +93,7 @@ fn stretch_line(name: &[u8], len: usize) {
     io::write_all(STDOUT_FILENO, b"\n");
 }
 
-#[derive(Drop)]
+#[derive(Clone, Copy)]
 struct Answered {
     frames: u64,
     buffer: KissBuffer,

@@ -1,4 +1,6 @@
 // What the TNC does with one KISS frame from the host, as m17core's write_kiss has it: ports 0, 1 and 2, data and two settings. All else is ignored.
+#![tactic(auto)]
+
 ghost use Rattle.std.specs.Prelude.{◌≡◌};
 ghost use Rattle.host_frame.specs.Frame.{obeyed_on, obeyed, frame_taken};
 ghost use Rattle.host_frame.specs.Data.{with_packets, with_streams, data_taken};
@@ -12,20 +14,20 @@ use packets::PacketQueue;
 use streams::StreamQueue;
 
 // The first byte of a setting's payload.
-#[derive(Drop)]
+#[derive(Clone, Copy)]
 pub enum Setting {
     Value(u8),
     Nothing,
 }
 
-#[derive(Drop)]
+#[derive(Clone, Copy)]
 pub enum FrameAnswer {
     Done,
     WrongStore,
     OutOfBounds,
 }
 
-#[derive(Drop)]
+#[derive(Clone, Copy)]
 pub struct FrameTaken {
     pub answer: FrameAnswer,
     pub host: Host,

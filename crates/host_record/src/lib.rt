@@ -1,4 +1,6 @@
 // What the host can change, and the lengths of the stores of what waits to be sent.
+#![tactic(auto)]
+
 ghost use Rattle.std.specs.Prelude.{◌≡◌};
 ghost use Rattle.host_record.specs.Host.{sound_host, stores_fit};
 
@@ -10,7 +12,7 @@ pub const PACKET_STORE_LEN: usize = 3420;
 pub const STREAM_STORE_LEN: usize = 230;
 
 // What the host can change: what waits to be sent, and whether the channel is duplex.
-#[derive(Drop)]
+#[derive(Clone, Copy)]
 pub struct Host {
     pub sending: Sending,
     pub channel: Channel,

@@ -1,4 +1,6 @@
 // The link for hosts in C and Rust: calls of the crates below under C names, with document 01's numbers in place of enums. `rt staticlib iflazrud` writes the archive.
+#![tactic(auto)]
+
 ghost use Rattle.std.specs.Prelude.{◌≡◌};
 ghost use Rattle.crc.specs.Crc.{crc_of};
 ghost use Rattle.kiss_layout.specs.Escape.{escaped};

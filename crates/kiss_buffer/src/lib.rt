@@ -1,5 +1,7 @@
 // The reader, as m17core's KissBuffer: raw bytes in, whole frames out. What counts of them stands at the start of a store of 1,713 bytes that the caller lends.
 // Here is the call that takes bytes in; `kiss_next` and `kiss_sound` have those that hand frames out.
+#![tactic(auto)]
+
 ghost use Rattle.std.specs.Prelude.{◌≡◌, ℕ, ◌≤◌, true, List, length};
 ghost use Rattle.kiss_reader.specs.Reader.{STORE};
 ghost use Rattle.kiss_calls.specs.Calls.{sound_buffer, written};

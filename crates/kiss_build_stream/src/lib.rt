@@ -1,4 +1,6 @@
 // The builders of KISS frames that carry streams, as m17core's kiss.rs has them. Each writes a frame at the start of a room that it is lent.
+#![tactic(auto)]
+
 ghost use Rattle.std.specs.Prelude.{◌≡◌};
 ghost use Rattle.kiss_layout.specs.Build.{built, stream_setup, stream_data};
 

@@ -1,5 +1,7 @@
 // The reader's record and what its calls answer. specs/ says what each call does to record and store, and what is promised over any run of calls; the calls are in
 // `kiss_buffer`, `kiss_next` and `kiss_sound`.
+#![tactic(auto)]
+
 ghost use Rattle.std.specs.Prelude.{◌≡◌};
 ghost use Rattle.kiss_reader.specs.Reader.{new_reader};
 ghost use Rattle.kiss_calls.specs.Calls.{buffer_of};
@@ -8,7 +10,7 @@ ghost use Rattle.kiss_calls.specs.Calls.{buffer_of};
 pub const MAX_FRAME_LEN: usize = 1713;
 
 #[repr(C)]
-#[derive(Drop)]
+#[derive(Clone, Copy)]
 pub struct KissBuffer {
     // How many bytes of the store count.
     pub filled: usize,
@@ -16,7 +18,7 @@ pub struct KissBuffer {
     pub taken: bool,
 }
 
-#[derive(Drop)]
+#[derive(Clone, Copy)]
 pub enum WriteAnswer {
     Done,
     Full,
@@ -24,14 +26,14 @@ pub enum WriteAnswer {
     OutOfBounds,
 }
 
-#[derive(Drop)]
+#[derive(Clone, Copy)]
 pub struct Written {
     pub answer: WriteAnswer,
     pub count: usize,
     pub buffer: KissBuffer,
 }
 
-#[derive(Drop)]
+#[derive(Clone, Copy)]
 pub enum NextAnswer {
     // A whole frame of that many bytes stands at the store's start.
     Frame(usize),
@@ -40,7 +42,7 @@ pub enum NextAnswer {
     OutOfBounds,
 }
 
-#[derive(Drop)]
+#[derive(Clone, Copy)]
 pub struct NextFrame {
     pub answer: NextAnswer,
     pub buffer: KissBuffer,

@@ -1,4 +1,6 @@
 // Escaping, as m17core's kiss.rs has it: FEND and FESC never stand in a frame's content as themselves.
+#![tactic(auto)]
+
 ghost use Rattle.std.specs.Prelude.{◌≡◌, ◌+◌, ◌≤◌, eqb, length, drop};
 ghost use Rattle.std.proofs.lemmas.List.Edits.{sets};
 ghost use Rattle.choice.specs.Pick.{pick};

@@ -1,4 +1,6 @@
 // The scans for FEND that every reader of KISS bytes goes by.
+#![tactic(auto)]
+
 ghost use Rattle.std.specs.Prelude.{◌≡◌};
 ghost use Rattle.kiss_layout.specs.Scan.{is_fend, not_fend, run_of};
 

@@ -1,4 +1,6 @@
 // One frame of KISS, as m17core's kiss.rs builds it: a header and a content, escaped, between two FEND. Each builder goes through here.
+#![tactic(auto)]
+
 ghost use Rattle.std.specs.Prelude.{◌≡◌, ◌++◌, ◌+◌, ◌≤◌, leb, length};
 ghost use Rattle.std.proofs.lemmas.List.Edits.{sets};
 ghost use Rattle.kiss_layout.specs.Escape.{esc};

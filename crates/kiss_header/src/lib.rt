@@ -1,4 +1,6 @@
 // The header of a KISS frame, as m17core's kiss.rs reads it: port and command. A frame is any slice: only its own bytes are looked at.
+#![tactic(auto)]
+
 ghost use Rattle.std.specs.Prelude.{◌≡◌};
 ghost use Rattle.kiss_layout.specs.Read.{command_number, port_read, command_for, command_read};
 

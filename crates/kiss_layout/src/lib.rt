@@ -1,5 +1,7 @@
 // What KISS frames are, without code: the special bytes, the ports, the commands and what the functions of framing answer. specs/ says what escaping, frames, reading and
 // building mean, and proofs/ that what is built reads back. The functions stand in crates above, so that whoever only speaks of frames does not reach them.
+#![tactic(auto)]
+
 pub const FEND: u8 = 0xC0;
 
 pub const FESC: u8 = 0xDB;
@@ -15,13 +17,13 @@ pub const PORT_PACKET_FULL: u8 = 1;
 pub const PORT_STREAM: u8 = 2;
 
 // What `escape` answers: how many bytes it wrote, or that they do not fit.
-#[derive(Drop)]
+#[derive(Clone, Copy)]
 pub enum Escaped {
     Wrote(usize),
     NoRoom,
 }
 
-#[derive(Drop)]
+#[derive(Clone, Copy)]
 pub enum KissCommand {
     DataFrame,
     TxDelay,
@@ -29,13 +31,13 @@ pub enum KissCommand {
     FullDuplex,
 }
 
-#[derive(Drop)]
+#[derive(Clone, Copy)]
 pub enum PortRead {
     Port(u8),
     MalformedKissFrame,
 }
 
-#[derive(Drop)]
+#[derive(Clone, Copy)]
 pub enum CommandRead {
     Command(KissCommand),
     MalformedKissFrame,
@@ -43,14 +45,14 @@ pub enum CommandRead {
 }
 
 // What `decode_payload` answers: how many bytes of the room it counted, or that the frame has no header or no end.
-#[derive(Drop)]
+#[derive(Clone, Copy)]
 pub enum Decoded {
     Payload(usize),
     MalformedKissFrame,
 }
 
 // What a builder answers: the length of the frame that it wrote, or why it wrote none.
-#[derive(Drop)]
+#[derive(Clone, Copy)]
 pub enum Built {
     Frame(usize),
     PayloadTooBig,

@@ -1,4 +1,6 @@
 // How long bytes are once they are escaped: counted first where a room might not hold them.
+#![tactic(auto)]
+
 ghost use Rattle.std.specs.Prelude.{◌≡◌, length};
 ghost use Rattle.kiss_layout.specs.Escape.{esc};
 

@@ -1,4 +1,6 @@
 // The reader's call that hands out frames.
+#![tactic(auto)]
+
 ghost use Rattle.std.specs.Prelude.{◌≡◌};
 ghost use Rattle.kiss_calls.specs.Calls.{next_frame};
 

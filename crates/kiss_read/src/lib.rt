@@ -1,4 +1,6 @@
 // The payload of a KISS frame, as m17core's kiss.rs decodes it. A frame is any slice: only its own bytes are looked at.
+#![tactic(auto)]
+
 ghost use Rattle.std.specs.Prelude.{◌≡◌};
 ghost use Rattle.kiss_layout.specs.Read.{decoded};
 

@@ -1,4 +1,6 @@
 // The reader's scans, each over the bytes that count of its store: where they settle, and whether a whole frame stands there.
+#![tactic(auto)]
+
 ghost use Rattle.std.specs.Prelude.{◌≡◌, length};
 ghost use Rattle.kiss_reader.specs.Reader.{settle, front, is_some};
 ghost use Rattle.kiss_reader.specs.Inside.{settle_at};

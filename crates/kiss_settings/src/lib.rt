@@ -1,4 +1,6 @@
 // The builders of KISS frames that set a TNC's parameters, as m17core's kiss.rs has them. Each writes a frame of one byte at the start of a room that it is lent.
+#![tactic(auto)]
+
 ghost use Rattle.std.specs.Prelude.{◌≡◌};
 ghost use Rattle.kiss_layout.specs.Build.{built, set_tx_delay, persistence, set_full_duplex};
 ghost use Rattle.kiss_settings.specs.Setting.{setting};

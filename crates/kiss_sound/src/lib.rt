@@ -1,4 +1,6 @@
 // Whether a record and its store stand for a reader, which each of the reader's calls asks first, and the frame that such a reader handed out.
+#![tactic(auto)]
+
 ghost use Rattle.std.specs.Prelude.{◌≡◌, eqb, length};
 ghost use Rattle.choice.specs.Pick.{and};
 ghost use Rattle.kiss_reader.specs.Reader.{STORE};

@@ -1,4 +1,6 @@
 // The content of a port 2 data frame, as m17core's kiss.rs builds it. A crate of its own below the builders, so that an edit of it does not prove all builders again.
+#![tactic(auto)]
+
 ghost use Rattle.std.specs.Prelude.{◌≡◌, ◌≤◌};
 ghost use Rattle.kiss_layout.specs.Stream.{end_mark, numbered_data, stream_content};
 ghost use Rattle.kiss_stream.specs.Checked.{checked_content};
@@ -6,7 +8,7 @@ ghost use Rattle.kiss_stream.specs.Checked.{checked_content};
 use protocol::StreamFrame;
 
 // The 26 bytes are all zero unless the content is valid.
-#[derive(Drop)]
+#[derive(Clone, Copy)]
 pub struct StreamContent {
     pub valid: bool,
     pub bytes: [u8; 26],

@@ -1,4 +1,6 @@
 // Unescaping of a frame's content, as m17core's kiss.rs has it. What it gives is defined beside escaping, in `kiss_layout`.
+#![tactic(auto)]
+
 ghost use Rattle.std.specs.Prelude.{◌≡◌, ◌+◌, ◌≤◌, min, eqb, length, drop};
 ghost use Rattle.choice.specs.Pick.{pick};
 ghost use Rattle.kiss_layout.specs.Escape.{FEND, FESC, TFEND};

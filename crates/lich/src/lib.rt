@@ -1,34 +1,36 @@
 // The LICH collection as m17core's protocol.rs has it: what has been heard of an LSF that comes in six segments of five bytes, one with each stream frame.
+#![tactic(auto)]
+
 ghost use Rattle.std.specs.Prelude.{◌≡◌};
 ghost use Rattle.lich.specs.Lich.{new_collection, valid_segments, segment_set, assembled};
 
 // Six segments of five bytes, and a mask whose bit i is set once segment i has been heard. A mask of 64 or more is no state of a collection.
-#[derive(Drop)]
+#[derive(Clone, Copy)]
 pub struct LichCollection {
     pub segments: [u8; 30],
     pub mask: u8,
 }
 
-#[derive(Drop)]
+#[derive(Clone, Copy)]
 pub enum ValidSegments {
     Count(usize),
     OutOfBounds,
 }
 
-#[derive(Drop)]
+#[derive(Clone, Copy)]
 pub enum SegmentAnswer {
     Done,
     IndexOver5,
     OutOfBounds,
 }
 
-#[derive(Drop)]
+#[derive(Clone, Copy)]
 pub struct SegmentSet {
     pub answer: SegmentAnswer,
     pub collection: LichCollection,
 }
 
-#[derive(Drop)]
+#[derive(Clone, Copy)]
 pub enum Assembly {
     Whole,
     Missing,
@@ -36,7 +38,7 @@ pub enum Assembly {
 }
 
 // The 30 bytes are all zero unless the answer is `Whole`.
-#[derive(Drop)]
+#[derive(Clone, Copy)]
 pub struct Assembled {
     pub answer: Assembly,
     pub bytes: [u8; 30],

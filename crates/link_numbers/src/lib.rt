@@ -1,4 +1,6 @@
 // What the calls that a host links answer: document 01's numbers in place of enums, with a count beside them.
+#![tactic(auto)]
+
 ghost use Rattle.std.specs.Prelude.{◌≡◌};
 ghost use Rattle.kiss_calls.specs.Calls.{write_number};
 ghost use Rattle.link_numbers.specs.Numbers.{escape_count, build_count, kept, next_count};
@@ -8,7 +10,7 @@ use kiss_layout::{Built, Escaped};
 
 // A number of document 01, and how many bytes where it is 0.
 #[repr(C)]
-#[derive(Drop)]
+#[derive(Clone, Copy)]
 pub struct Counted {
     pub number: u8,
     pub count: usize,
@@ -16,7 +18,7 @@ pub struct Counted {
 
 // The reader's record, which the host keeps beside its store of 1,713 bytes; a new one is 0 and false.
 #[repr(C)]
-#[derive(Drop)]
+#[derive(Clone, Copy)]
 pub struct Reader {
     pub filled: usize,
     pub taken: bool,
@@ -24,7 +26,7 @@ pub struct Reader {
 
 // What a call of the reader answers: how many bytes were taken, or how long the frame at the store's start is, 0 where there is none.
 #[repr(C)]
-#[derive(Drop)]
+#[derive(Clone, Copy)]
 pub struct ReaderAnswer {
     pub number: u8,
     pub count: usize,

@@ -1,4 +1,6 @@
 // What a write from the host asks: before it touches anything, whether its stores have their lengths; and behind the reader, whether that took the bytes.
+#![tactic(auto)]
+
 ghost use Rattle.std.specs.Prelude.{◌≡◌};
 ghost use Rattle.link_ready.specs.Ready.{link_fits, was_taken};
 

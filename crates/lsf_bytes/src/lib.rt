@@ -1,4 +1,6 @@
 // An LSF's bytes: its type field, its meta field, and the bytes with another type and the CRC renewed.
+#![tactic(auto)]
+
 ghost use Rattle.std.specs.Prelude.{◌≡◌};
 ghost use Rattle.lsf_layout.specs.Bytes.{type_field};
 ghost use Rattle.lsf_bytes.specs.Bytes.{meta, retyped};

@@ -1,4 +1,6 @@
 // The fields of a link setup frame that only a host asks for, as m17core's protocol.rs reads them. The mode is read in `lsf_frame`, the meta field in `lsf_bytes`.
+#![tactic(auto)]
+
 ghost use Rattle.std.specs.Prelude.{◌≡◌};
 ghost use Rattle.lsf_layout.specs.Bits.{data_type_bits, encryption_bits, channel_bits};
 ghost use Rattle.lsf_layout.specs.Lsf.{field_of};

@@ -1,4 +1,6 @@
 // What the TNC asks of a link setup frame, as m17core's LsfFrame has it: the one of port 0, whether its CRC is right, and its mode.
+#![tactic(auto)]
+
 ghost use Rattle.std.specs.Prelude.{◌≡◌};
 ghost use Rattle.crc.specs.Crc.{crc_of};
 ghost use Rattle.protocol.specs.Lsf.{field_of, mode_bits};

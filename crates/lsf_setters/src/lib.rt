@@ -1,4 +1,6 @@
 // The fields of a link setup frame's type, set with the CRC renewed, as m17core's protocol.rs has them.
+#![tactic(auto)]
+
 ghost use Rattle.std.specs.Prelude.{◌≡◌, ℕ, ◌+◌, ◌*◌, ◌/◌, ◌%◌, ◌<◌};
 ghost use Rattle.lsf_layout.specs.Bits.{mode_bits, data_type_bits, encryption_bits, channel_bits};
 ghost use Rattle.lsf_layout.specs.Bytes.{type_field};

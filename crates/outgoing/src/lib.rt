@@ -1,23 +1,25 @@
 // The message to the host that waits to be read, as m17core's tnc.rs has it: a KISS frame at the start of a store of 1,713 bytes that the caller lends.
+#![tactic(auto)]
+
 ghost use Rattle.std.specs.Prelude.{◌≡◌};
 ghost use Rattle.outgoing.specs.Message.{no_message, sound_message};
 
 // How long the message is, and how much of it has been read. No message: both are 0.
 #[repr(C)]
-#[derive(Drop)]
+#[derive(Clone, Copy)]
 pub struct Outgoing {
     pub len: usize,
     pub read: usize,
 }
 
-#[derive(Drop)]
+#[derive(Clone, Copy)]
 pub enum HostAnswer {
     Done,
     WrongStore,
     OutOfBounds,
 }
 
-#[derive(Drop)]
+#[derive(Clone, Copy)]
 pub struct HostRead {
     pub answer: HostAnswer,
     pub count: usize,

@@ -1,4 +1,6 @@
 // The push of a data frame of port 0, behind `packets`, which has the record and the definitions: its content becomes a packet that waits.
+#![tactic(auto)]
+
 ghost use Rattle.std.specs.Prelude.{◌≡◌, ◌+◌, ◌≤◌, length};
 ghost use Rattle.kiss_layout.specs.Read.{decoded};
 ghost use Rattle.packets.specs.Frames.{zeros};

@@ -1,4 +1,6 @@
 // The push of a data frame of port 1, behind `packets`, which has the record and the definitions: its content becomes a packet that waits.
+#![tactic(auto)]
+
 ghost use Rattle.std.specs.Prelude.{◌≡◌};
 ghost use Rattle.packets.specs.Queue.{pushed_full};
 

@@ -1,4 +1,6 @@
 // What both pushes of the packet queue end with, behind `packets`, which has the record and the definitions.
+#![tactic(auto)]
+
 ghost use Rattle.std.specs.Prelude.{◌≡◌};
 ghost use Rattle.packet_push.specs.Accepted.{accepted_as};
 

@@ -1,4 +1,6 @@
 // The reads of the packet queue, behind `packets`, which has the record and the definitions: the packets that wait are cut into frames.
+#![tactic(auto)]
+
 ghost use Rattle.std.specs.Prelude.{◌≡◌, true, length};
 ghost use Rattle.packets.specs.Queue.{STORE, sound_queue, lsf_read, data_read, walk, not_read, read_next};
 ghost use Rattle.packets.specs.Frames.{chunk};

@@ -1,1 +1,3 @@
 // Definitions and proofs only: what the packet queue holds, takes and gives. See specs/.
+#![tactic(auto)]
+

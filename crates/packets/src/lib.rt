@@ -1,5 +1,7 @@
 // The packets that wait for transmission, as m17core's TNC queues them; `packet_basic` and `packet_full` take them in, `packet_read` cuts them into frames. A queue is a record of four places; the bytes of
 // place k stand in a store that the caller lends, its LSF at 855 k and its data at 855 k + 30.
+#![tactic(auto)]
+
 ghost use Rattle.std.specs.Prelude.{◌≡◌};
 ghost use Rattle.packets.specs.Queue.{sound_queue, is_empty};
 
@@ -14,7 +16,7 @@ pub const ROOM_LEN: usize = 855;
 pub const STORE_LEN: usize = 3420;
 
 #[repr(C)]
-#[derive(Drop)]
+#[derive(Clone, Copy)]
 pub struct Place {
     // Its LSF is still to be sent.
     pub due: bool,
@@ -23,7 +25,7 @@ pub struct Place {
 }
 
 #[repr(C)]
-#[derive(Drop)]
+#[derive(Clone, Copy)]
 pub struct PacketQueue {
     pub places: [Place; 4],
     // The place that the next packet goes into.
@@ -35,7 +37,7 @@ pub struct PacketQueue {
 }
 
 // The answers of pushes and reads are declared here and not in the crates of the calls, since the definitions and promises of specs/ speak of them too.
-#[derive(Drop)]
+#[derive(Clone, Copy)]
 pub enum PushAnswer {
     Queued,
     Ignored,
@@ -44,13 +46,13 @@ pub enum PushAnswer {
     OutOfBounds,
 }
 
-#[derive(Drop)]
+#[derive(Clone, Copy)]
 pub struct Pushed {
     pub answer: PushAnswer,
     pub queue: PacketQueue,
 }
 
-#[derive(Drop)]
+#[derive(Clone, Copy)]
 pub enum ReadAnswer {
     Nothing,
     Lsf,
@@ -60,7 +62,7 @@ pub enum ReadAnswer {
     OutOfBounds,
 }
 
-#[derive(Drop)]
+#[derive(Clone, Copy)]
 pub struct PacketRead {
     pub answer: ReadAnswer,
     pub lsf: LsfFrame,

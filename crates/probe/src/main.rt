@@ -2,6 +2,8 @@
 // eight bytes (kind, length of the room, what the room's bytes are counted up from, lengths of two arguments; lengths are two bytes, high byte first) and the two
 // arguments. An answer is document 01's number, a value of two bytes and the whole room, so that bytes that were not written are seen too. A request that is not there
 // whole ends the program.
+#![tactic(auto)]
+
 ghost use Rattle.std.specs.Prelude.{◌<◌, ◌≤◌, ◌≡◌, length};
 
 use kiss_calls::{KissBuffer, NextAnswer, NextFrame, WriteAnswer, Written};
@@ -27,7 +29,7 @@ const NO_ROOM: usize = 7 * 65536;
 const OUT_OF_BOUNDS: usize = 8 * 65536;
 
 // What lasts from one request to the next, and the last answer.
-#[derive(Drop)]
+#[derive(Clone, Copy)]
 struct Session {
     reader: KissBuffer,
     answer: usize,
@@ -35,7 +37,7 @@ struct Session {
 }
 
 // What the head of a request says, and whether all of it was there. The arguments are the body's bytes up to `first`, and from there to `end`.
-#[derive(Drop)]
+#[derive(Clone, Copy)]
 struct Request {
     whole: bool,
     kind: u8,

@@ -1,6 +1,8 @@
 // Answers requests for the run against the Rust in compare/, as `probe` does, of the functions that take and give an LSF or a LICH part by value. A request is 32
 // bytes: kind, a value or index, and thirty bytes, the LSF or in front the part. An answer is 33: document 01's number, a value of two bytes, high byte first, and
 // thirty bytes, the LSF or in front its meta field, else zero. A request that is cut ends the program.
+#![tactic(auto)]
+
 use libc::{STDIN_FILENO, STDOUT_FILENO};
 use lich::{Assembled, Assembly, LichCollection, SegmentAnswer, SegmentSet, ValidSegments};
 use protocol::{DataType, EncryptionType, LsfFrame, Mode};
@@ -11,7 +13,7 @@ const OUT_OF_RANGE: usize = 6 * 65536;
 const OUT_OF_BOUNDS: usize = 8 * 65536;
 
 // The collection, which lasts from one request to the next, and the last answer.
-#[derive(Drop)]
+#[derive(Clone, Copy)]
 struct Session {
     lich: LichCollection,
     answer: usize,

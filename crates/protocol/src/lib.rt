@@ -1,9 +1,11 @@
 // The frames of M17 as m17core's protocol.rs has them: the link setup frame (LSF), stream and packet frames. No code: what is asked of an LSF is in `lsf_frame` and `lsf_fields`, what is set in `lsf_setters`, the LICH collection in `lich`.
+#![tactic(auto)]
+
 mod lsf;
 
 pub use lsf::{DataType, EncryptionType, LsfFrame, Mode};
 
-#[derive(Drop)]
+#[derive(Clone, Copy)]
 pub struct StreamFrame {
     // Which LICH segment is given in this frame, from 0 to 5.
     pub lich_idx: u8,
@@ -14,7 +16,7 @@ pub struct StreamFrame {
     pub stream_data: [u8; 16],
 }
 
-#[derive(Drop)]
+#[derive(Clone, Copy)]
 pub enum PacketFrameCounter {
     // A frame that is not the last: its index, from 0 to 31. All 25 bytes count.
     Frame { index: usize },
@@ -22,7 +24,7 @@ pub enum PacketFrameCounter {
     FinalFrame { payload_len: usize },
 }
 
-#[derive(Drop)]
+#[derive(Clone, Copy)]
 pub struct PacketFrame {
     pub payload: [u8; 25],
     pub counter: PacketFrameCounter,

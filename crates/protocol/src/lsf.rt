@@ -1,11 +1,11 @@
 // The link setup frame: 30 bytes, of which 12 and 13 are the type field and the last two the CRC. Its CRC and mode are read in `lsf_frame`, its other fields in `lsf_fields`, and set in `lsf_setters`.
-#[derive(Drop)]
+#[derive(Clone, Copy)]
 pub enum Mode {
     Packet,
     Stream,
 }
 
-#[derive(Drop)]
+#[derive(Clone, Copy)]
 pub enum DataType {
     Reserved,
     Data,
@@ -13,7 +13,7 @@ pub enum DataType {
     VoiceAndData,
 }
 
-#[derive(Drop)]
+#[derive(Clone, Copy)]
 pub enum EncryptionType {
     None,
     Scrambler,
@@ -21,5 +21,5 @@ pub enum EncryptionType {
     Other,
 }
 
-#[derive(Drop)]
+#[derive(Clone, Copy)]
 pub struct LsfFrame(pub [u8; 30]);

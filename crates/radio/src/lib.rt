@@ -1,4 +1,6 @@
 // What frames from the air change beside the stores, the TNC's state and its message to the host, and what all calls with such a frame have in common.
+#![tactic(auto)]
+
 ghost use Rattle.std.specs.Prelude.{◌≡◌};
 ghost use Rattle.radio.specs.Radio.{sound_radio, turned};
 
@@ -10,13 +12,13 @@ pub const RX_STORE_LEN: usize = 855;
 
 pub const MESSAGE_STORE_LEN: usize = 1713;
 
-#[derive(Drop)]
+#[derive(Clone, Copy)]
 pub struct Radio {
     pub state: State,
     pub outgoing: Outgoing,
 }
 
-#[derive(Drop)]
+#[derive(Clone, Copy)]
 pub enum AirAnswer {
     Done,
     OutOfRange,
@@ -24,14 +26,14 @@ pub enum AirAnswer {
     OutOfBounds,
 }
 
-#[derive(Drop)]
+#[derive(Clone, Copy)]
 pub struct Heard {
     pub answer: AirAnswer,
     pub radio: Radio,
 }
 
 // Whether a frame is listened to, or else what is answered.
-#[derive(Drop)]
+#[derive(Clone, Copy)]
 pub enum Hears {
     Frame,
     Answer(AirAnswer),

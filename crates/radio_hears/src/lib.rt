@@ -1,4 +1,6 @@
 // Whether the TNC listens to a frame from the air.
+#![tactic(auto)]
+
 ghost use Rattle.std.specs.Prelude.{◌≡◌};
 ghost use Rattle.radio.specs.Radio.{hears_by};
 

@@ -1,4 +1,6 @@
 // What the radio tells the host: the message that was built for it.
+#![tactic(auto)]
+
 ghost use Rattle.std.specs.Prelude.{◌≡◌};
 ghost use Rattle.radio_told.specs.Inside.{told_of};
 

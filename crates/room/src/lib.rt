@@ -1,6 +1,8 @@
 // Bytes in a room that a caller lends: what a call on it answers, and what specs/ says of the room after it. The functions are in `store` and `store_shift`.
 // What a call answers: that it is done, or that the store has no such place.
-#[derive(Drop)]
+#![tactic(auto)]
+
+#[derive(Clone, Copy)]
 pub enum Copied {
     Done,
     NoRoom,

@@ -1,4 +1,6 @@
 // What waits to be sent, as m17core's tnc.rs keeps it beside its state: both queues, and how long the preamble is.
+#![tactic(auto)]
+
 ghost use Rattle.std.specs.Prelude.{◌≡◌};
 ghost use Rattle.sending.specs.Sending.{sound_sending, wants_to_send};
 
@@ -6,7 +8,7 @@ use packets::PacketQueue;
 use streams::StreamQueue;
 
 #[repr(C)]
-#[derive(Drop)]
+#[derive(Clone, Copy)]
 pub struct Sending {
     pub packets: PacketQueue,
     pub streams: StreamQueue,

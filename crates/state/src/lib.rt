@@ -1,9 +1,11 @@
 // What the TNC is doing, with the names of m17core's tnc.rs.
+#![tactic(auto)]
+
 ghost use Rattle.std.specs.Prelude.{◌≡◌};
 ghost use Rattle.state.specs.State.{transmits, reception_of, transmission_of, sound_state};
 
 // The bytes that go with a reception stand in a store of the caller's: the LSF, or its LICH segments, and the packet.
-#[derive(Drop)]
+#[derive(Clone, Copy)]
 pub enum State {
     Idle,
     // Segments of an LSF are collected: the mask of those that have been heard.
@@ -21,7 +23,7 @@ pub enum State {
 }
 
 // What is being received, with the number that goes with it.
-#[derive(Drop)]
+#[derive(Clone, Copy)]
 pub enum Reception {
     Nothing,
     Acquiring(u8),
@@ -30,7 +32,7 @@ pub enum Reception {
 }
 
 // What is being sent.
-#[derive(Drop)]
+#[derive(Clone, Copy)]
 pub enum Transmission {
     // Nothing is: PTT is off, whether something is being received or not.
     Receiving,

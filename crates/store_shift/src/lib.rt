@@ -1,4 +1,6 @@
 // Bytes moved in a store that the caller lends.
+#![tactic(auto)]
+
 ghost use Rattle.std.specs.Prelude.{◌≡◌, ◌+◌, ◌≤◌, length, take, drop};
 ghost use Rattle.room.specs.Room.{over, shifted};
 

@@ -1,4 +1,6 @@
 // How the stream queue stores a data payload.
+#![tactic(auto)]
+
 ghost use Rattle.std.specs.Prelude.{◌≡◌};
 ghost use Rattle.kiss_layout.specs.Stream.{stream_of};
 ghost use Rattle.streams.specs.Layout.{bytes_of};

@@ -1,4 +1,6 @@
 // The push of the stream queue, behind `streams`, which has the record and the definitions.
+#![tactic(auto)]
+
 ghost use Rattle.std.specs.Prelude.{true, ◌≡◌, length};
 ghost use Rattle.streams.specs.Queue.{STORE, sound_queue, data_pushed, lsf_pushed, pushed};
 

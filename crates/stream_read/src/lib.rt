@@ -1,4 +1,6 @@
 // The reads of the stream queue, behind `streams`, which has the record and the definitions.
+#![tactic(auto)]
+
 ghost use Rattle.std.specs.Prelude.{true, ◌≡◌, length};
 ghost use Rattle.streams.specs.Layout.{FRAME, frame_of};
 ghost use Rattle.streams.specs.Queue.{STORE, sound_queue, no_frame, not_read, lsf_read, frame_read, read_next};

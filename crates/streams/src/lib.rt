@@ -1,6 +1,8 @@
 // The queue of stream frames that wait to be sent, and the LSF that goes before them, as m17core's tnc.rs has them; `stream_push` takes them in, `stream_read` reads
 // them. They stand in a store of 230 bytes that the caller lends: eight frames of 25 bytes, then the LSF. Bytes at fixed places, since an array of frames that hold
 // arrays is costly to pass by value, and to prove.
+#![tactic(auto)]
+
 ghost use Rattle.std.specs.Prelude.{◌≡◌};
 ghost use Rattle.streams.specs.Queue.{sound_queue, empty_queue};
 
@@ -16,7 +18,7 @@ pub const FRAME_LEN: usize = 25;
 pub const LSF_AT: usize = 200;
 
 #[repr(C)]
-#[derive(Drop)]
+#[derive(Clone, Copy)]
 pub struct StreamQueue {
     // The place that the next frame is put into, and that of the first one that waits. Equal places are an empty queue, or a full one.
     pub next: usize,
@@ -27,7 +29,7 @@ pub struct StreamQueue {
 }
 
 // The answers of pushes and reads are declared here and not in `stream_push` and `stream_read`, since the definitions and promises of specs/ speak of them too.
-#[derive(Drop)]
+#[derive(Clone, Copy)]
 pub enum StreamAnswer {
     Queued,
     LsfPending,
@@ -37,13 +39,13 @@ pub enum StreamAnswer {
     OutOfBounds,
 }
 
-#[derive(Drop)]
+#[derive(Clone, Copy)]
 pub struct StreamPushed {
     pub answer: StreamAnswer,
     pub queue: StreamQueue,
 }
 
-#[derive(Drop)]
+#[derive(Clone, Copy)]
 pub enum StreamReadAnswer {
     Nothing,
     Lsf,
@@ -53,7 +55,7 @@ pub enum StreamReadAnswer {
 }
 
 // The LSF is all zero unless the answer is `Lsf`, and the frame unless it is `Frame`.
-#[derive(Drop)]
+#[derive(Clone, Copy)]
 pub struct StreamRead {
     pub answer: StreamReadAnswer,
     pub lsf: LsfFrame,

@@ -2,6 +2,8 @@
 // the names of m17core's SoftTnc. `Tnc` and `Channel` go in by value and come back in the answer; the large bytes stand in stores that the caller lends. Bytes to the host are
 // given by `tnc_read`, frames from the air taken by `tnc_receive`, those for the modulator given by `tnc_transmit`; set_now and set_tx_end_time are calls of `tnc_clock`, new
 // is one of `tnc_new`, ptt one of `Tnc`, set_data_carrier_detect one of `Channel`.
+#![tactic(auto)]
+
 ghost use Rattle.std.specs.Prelude.{◌≡◌};
 ghost use Rattle.tnc.specs.Calls.{not_written, put_back, tnc_written};
 ghost use Rattle.kiss_calls.specs.Promises.{Sound};
@@ -16,7 +18,7 @@ use kiss_calls::{KissBuffer, WriteAnswer};
 use link_ready::{link_fits, was_taken};
 use tnc_core::Tnc;
 
-#[derive(Drop)]
+#[derive(Clone, Copy)]
 pub struct KissWritten {
     pub answer: WriteAnswer,
     // How many of the offered bytes were taken.
@@ -25,7 +27,7 @@ pub struct KissWritten {
     pub host: Host,
 }
 
-#[derive(Drop)]
+#[derive(Clone, Copy)]
 pub struct TncWritten {
     pub answer: WriteAnswer,
     // How many of the offered bytes were taken.

@@ -1,4 +1,6 @@
 // The calls that tell the TNC the time, with the names of m17core's SoftTnc.
+#![tactic(auto)]
+
 ghost use Rattle.std.specs.Prelude.{◌≡◌};
 ghost use Rattle.tnc_clock.specs.Clock.{in_state, now_set, end_time_set};
 ghost use Rattle.state.specs.State.{time_reached, ending_at};
@@ -8,7 +10,7 @@ use radio::Radio;
 use state::State;
 use tnc_core::Tnc;
 
-#[derive(Drop)]
+#[derive(Clone, Copy)]
 pub struct Timed {
     pub answer: ChannelAnswer,
     pub tnc: Tnc,

@@ -1,4 +1,6 @@
 // The TNC's record, as m17core's SoftTnc but for its large bytes and its channel, which stand in stores and a record of the caller's; and its bounds.
+#![tactic(auto)]
+
 ghost use Rattle.std.specs.Prelude.{◌≡◌};
 ghost use Rattle.tnc_core.specs.Tnc.{sound_tnc, ptt_of, with_radio};
 
@@ -6,7 +8,7 @@ use kiss_calls::{KissBuffer, MAX_FRAME_LEN};
 use radio::Radio;
 use sending::Sending;
 
-#[derive(Drop)]
+#[derive(Clone, Copy)]
 pub struct Tnc {
     // The reader of the host's bytes.
     pub buffer: KissBuffer,
@@ -16,7 +18,7 @@ pub struct Tnc {
     pub ptt: bool,
 }
 
-#[derive(Drop)]
+#[derive(Clone, Copy)]
 pub enum Ptt {
     Off,
     On,

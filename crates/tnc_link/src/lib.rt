@@ -1,4 +1,6 @@
 // The TNC for hosts in C and Rust: one function that applies an event to it, over a record without enums. `rt staticlib tnc_link` writes the archive.
+#![tactic(auto)]
+
 ghost use Rattle.std.specs.Prelude.{◌≡◌};
 ghost use Rattle.tnc_link.specs.Saved.{new_saved, saved_of, box_of, told, saved_turn, event_on};
 ghost use Rattle.tnc_link.specs.Numbers.{state_numbers, state_read};
@@ -13,14 +15,14 @@ use state::State;
 use tnc_core::Tnc;
 
 // A state's kind, 0 to 8 in the order of `state::State`, and its number, 0 where it has none.
-#[derive(Drop)]
+#[derive(Clone, Copy)]
 pub struct StateNumbers {
     pub kind: u8,
     pub value: u64,
 }
 
 // The state that two numbers stand for, and whether they are a state's: the kind one of nine and the value one of that kind's.
-#[derive(Drop)]
+#[derive(Clone, Copy)]
 pub struct StateRead {
     pub valid: bool,
     pub state: State,
@@ -28,7 +30,7 @@ pub struct StateRead {
 
 // The TNC and its channel. A state is its kind, 0 to 8 in the order of `state::State`, and its number, 0 where it has none.
 #[repr(C)]
-#[derive(Drop)]
+#[derive(Clone, Copy)]
 pub struct Saved {
     pub buffer: KissBuffer,
     pub sending: Sending,
@@ -40,7 +42,7 @@ pub struct Saved {
 }
 
 #[repr(C)]
-#[derive(Drop)]
+#[derive(Clone, Copy)]
 pub struct EventAnswer {
     pub number: u8,
     // How many of the room's bytes the event prints.

@@ -1,4 +1,6 @@
 // What the TNC gives the modulator, frame by frame, as m17core's tnc.rs has it: a preamble once the channel may be used, a transmission's frames, and its end.
+#![tactic(auto)]
+
 ghost use Rattle.std.specs.Prelude.{◌≡◌};
 ghost use Rattle.tnc_modulator.specs.Modulator.{all_sound, tx_read};
 

@@ -1,4 +1,6 @@
 // A new TNC, as m17core's SoftTnc::new gives it.
+#![tactic(auto)]
+
 ghost use Rattle.std.specs.Prelude.{◌≡◌};
 ghost use Rattle.tnc_core.specs.Tnc.{new_tnc};
 

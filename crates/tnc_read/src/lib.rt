@@ -1,4 +1,6 @@
 // The TNC's call for bytes to the host.
+#![tactic(auto)]
+
 ghost use Rattle.std.specs.Prelude.{◌≡◌};
 ghost use Rattle.tnc_read.specs.Calls.{not_read, tnc_read};
 ghost use Rattle.outgoing.specs.Message.{read_up_to};
@@ -7,7 +9,7 @@ use outgoing::HostAnswer;
 use radio::{MESSAGE_STORE_LEN, Radio};
 use tnc_core::Tnc;
 
-#[derive(Drop)]
+#[derive(Clone, Copy)]
 pub struct TncRead {
     pub answer: HostAnswer,
     pub count: usize,

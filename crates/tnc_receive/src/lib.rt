@@ -1,4 +1,6 @@
 // The TNC's calls with a frame from the air: m17core's handle_frame, one call for each of its three kinds of frame.
+#![tactic(auto)]
+
 ghost use Rattle.std.specs.Prelude.{◌≡◌};
 ghost use Rattle.tnc_stream.specs.Stream.{stream_heard};
 ghost use Rattle.tnc_receive.specs.Calls.{air_heard, hears_by, put_heard};
@@ -9,7 +11,7 @@ use protocol::{LsfFrame, PacketFrame, StreamFrame};
 use radio::{AirAnswer, Heard, Hears, MESSAGE_STORE_LEN, RX_STORE_LEN};
 use tnc_core::Tnc;
 
-#[derive(Drop)]
+#[derive(Clone, Copy)]
 pub struct TncHeard {
     pub answer: AirAnswer,
     pub tnc: Tnc,

@@ -16,7 +16,7 @@ use Rattle.lich.specs.declared.LichCollection.{LichCollection}
 use Rattle.lich.specs.Lich.{new_collection}
 use Rattle.kiss_layout.specs.Build.{stream_setup, stream_data}
 use Rattle.state.specs.declared.State.{State}
-use Rattle.state.specs.declared.State.TheVariants.{Idle, RxStream, RxPacket}
+use Rattle.state.specs.declared.State.TheVariants.{Idle, RxAcquiringStream, RxStream, RxPacket, TxStream, TxStreamSentEndOfStream, TxPacket, TxEnding, TxEndingAtTime}
 use Rattle.state.specs.declared.Reception.{Reception}
 use Rattle.state.specs.declared.Reception.TheVariants.{Nothing, Acquiring, Stream, Packet}
 use Rattle.state.specs.State.{reception_of, sound_state}
@@ -150,6 +150,12 @@ restarts x f g i h = go x.radio.state refl h
     go Idle e idle = received x f g i (ap reception_of e)
     go (RxPacket count) e packet = received x f g i (ap reception_of e)
     go (RxStream expected) e (backward n) = received x f g i (ap reception_of e) ∙ sym (goes_Back x.radio f x.rx x.out expected refl n)
+    go (RxAcquiringStream mask) e h = elim h [ ]
+    go TxStream e h = elim h [ ]
+    go TxStreamSentEndOfStream e h = elim h [ ]
+    go TxPacket e h = elim h [ ]
+    go TxEnding e h = elim h [ ]
+    go (TxEndingAtTime end) e h = elim h [ ]
 
 -- segments that stand over the store's start
 at-start : (s rx : List ℕ) → length s ≡ 30 → take 30 (over s rx) ≡ s

@@ -1,5 +1,7 @@
 // What the TNC does with stream frames from the air, as m17core's tnc.rs has it. LICH segments that are being collected stand at the start of a store of 855 bytes that
 // the caller lends, their mask in the state; the message to the host in a store of 1,713 bytes.
+#![tactic(auto)]
+
 ghost use Rattle.std.specs.Prelude.{◌≤◌, ◌<◌, ◌≡◌, length};
 ghost use Rattle.radio.specs.Radio.{RX, MESSAGE};
 ghost use Rattle.tnc_stream.specs.Stream.{acquired, stream_heard};

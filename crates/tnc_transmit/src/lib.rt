@@ -1,4 +1,6 @@
 // The TNC's call for the modulator.
+#![tactic(auto)]
+
 ghost use Rattle.std.specs.Prelude.{◌≡◌};
 ghost use Rattle.tnc_transmit.specs.Calls.{not_given, put_given, tnc_tx};
 
@@ -10,7 +12,7 @@ use tnc_core::Tnc;
 use tx_frame::{NO_PACKET_FRAME, NO_STREAM_FRAME, TxAnswer, TxRead};
 
 // The frame's kind is the answer. What that kind does not use is zero.
-#[derive(Drop)]
+#[derive(Clone, Copy)]
 pub struct TncTx {
     pub answer: TxAnswer,
     pub tx_delay: u8,

@@ -1,4 +1,6 @@
 // The read that begins a transmission, as m17core's tnc.rs has it: a preamble once the channel may be used.
+#![tactic(auto)]
+
 ghost use Rattle.std.specs.Prelude.{◌≡◌};
 ghost use Rattle.tx_begin.specs.Begin.{keyed_up, begun};
 

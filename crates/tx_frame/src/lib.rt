@@ -1,4 +1,6 @@
 // A frame for the modulator, as an answer that each kind of read fills with what it has.
+#![tactic(auto)]
+
 ghost use Rattle.std.specs.Prelude.{◌≡◌};
 ghost use Rattle.tx_frame.specs.Frame.{unfilled};
 
@@ -7,7 +9,7 @@ use protocol::{LsfFrame, PacketFrame, PacketFrameCounter, StreamFrame};
 use sending::Sending;
 use state::State;
 
-#[derive(Drop)]
+#[derive(Clone, Copy)]
 pub enum TxAnswer {
     Nothing,
     Preamble,
@@ -20,7 +22,7 @@ pub enum TxAnswer {
 }
 
 // The frame's kind is the answer. What that kind does not use is zero.
-#[derive(Drop)]
+#[derive(Clone, Copy)]
 pub struct TxRead {
     pub answer: TxAnswer,
     // How long the preamble is, in units of 10 ms.

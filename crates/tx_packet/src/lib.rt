@@ -1,4 +1,6 @@
 // A read in a packet transmission, as m17core's tnc.rs has it.
+#![tactic(auto)]
+
 ghost use Rattle.std.specs.Prelude.{◌≡◌};
 ghost use Rattle.tx_packet.specs.Packet.{packet_answer, after_packet, packet_given};
 

@@ -1,4 +1,6 @@
 // A read in a stream transmission, as m17core's tnc.rs has it.
+#![tactic(auto)]
+
 ghost use Rattle.std.specs.Prelude.{◌≡◌};
 ghost use Rattle.tx_stream.specs.Stream.{stream_answer, after_stream, stream_given};
 
