@@ -28,6 +28,7 @@ class Names:
         self.typed = d["typed"]
         self.loops = d["loops"]
         self.changed = d["changed"]
+        self.params = d["params"]
         self.args = {}
         for old, new in d["args"]:
             if old.startswith(".args ."):
@@ -118,56 +119,102 @@ def decls(text):
 
 
 class Turn:
-    def __init__(self, names):
+    def __init__(self, names, helpers):
         self.n = names
+        self.helpers = helpers
 
-    def path(self, toks, place):
-        """c or an alias, then fields: befores go, the step gets its name."""
-        fields = [t for t in toks if t != "before"]
+    def resolved(self, fields, place):
+        """Fields of today for a path without its befores, and the callee of its step."""
         if not fields:
-            return ""
-        if fields[0] in ("args", "requires", "loop") and fields[0] != "loop":
+            return [], None
+        if fields[0] in ("args", "requires", "ranges"):
             if fields[0] == "args" and len(fields) > 1:
-                fields[1] = self.n.args.get(fields[1], fields[1])
-            return "." + ".".join(fields)
+                fields = ["args", self.n.args.get(fields[1], fields[1])] + fields[2:]
+            return fields, None
         if fields[0] == "pre":
-            return ".requires" + "".join("." + f for f in fields[1:])
+            return ["requires"] + fields[1:], None
         new, took = self.n.step(place, fields[0], fields[1:])
         if new is None:
-            return "." + ".".join(fields)
-        return "." + ".".join(new + fields[1 + took :])
+            return fields, None
+        callee = next((p[3] for p in self.n.places if norm(p[2][0]) == norm(fields[0])), None)
+        return new + fields[1 + took :], callee
+
+    def outs(self, fields, callee):
+        """`.new.1.1.0` is what the third parameter holds afterwards."""
+        params = self.n.params.get(callee) if callee else None
+        for word in ("new", "auto"):
+            if params and word in fields[:3]:
+                i = fields.index(word)
+                k = i + 1
+                while k < len(fields) and fields[k] == "1":
+                    k += 1
+                if k < len(fields) and fields[k] == "0" and k - i - 1 < len(params):
+                    return fields[: i + 1] + [params[k - i - 1]] + fields[k + 1 :]
+        return fields
+
+    def distance(self, place, goal):
+        if place is None or goal is None:
+            return 0
+        chain = self.n.chain(place)
+        return chain.index(goal) if goal in chain else 0
 
     def term(self, text, var, place):
         """A term over the record `var` at a place."""
-        alias = {var: ""}
-        # aliases: let a = PATH in
-        for _ in range(40):
-            m = None
-            for mm in re.finditer(r"let (\w+)(?: : [^=]*)? = (\w+)((?:\.[^\s(){},.;]+)*) in ?\n?\s*", text):
-                if mm[2] in alias and all(f in ("before",) for f in mm[3].split(".")[1:]):
-                    m = mm
+        alias = {var: ([], None, 0)}
+        for _ in range(60):
+            found = None
+            for m in re.finditer(r"let (\w+)(?: : [^=\n]*)? = (\w+)((?:\.[^\s(){},.;\[\]]+)*) in ?\n?\s*", text):
+                if m[2] not in alias:
+                    continue
+                raw = re.findall(r"\.([^\s(){},.;\[\]]+)", m[3])
+                base, callee, befores = alias[m[2]]
+                rest = [f for f in raw if f != "before"]
+                if rest and base:
+                    continue
+                fields, c2 = self.resolved(rest, place) if rest else (base, callee)
+                if len(fields) <= 1 and fields[:1] != ["args"] or (len(fields) == 2 and fields[0].startswith("in")):
+                    found = (m, fields, c2 if rest else callee)
                     break
-            if not m:
+            if not found:
                 break
-            alias[m[1]] = ""
+            m, fields, callee = found
+            alias[m[1]] = (fields, callee, 0)
             text = text[: m.start()] + text[m.end() :]
-        def one(m):
-            if m[1] not in alias:
-                return m[0]
-            fields = re.findall(r"\.([^\s(){},.;\[\]]+)", m[2])
-            return var + self.path(fields, place)
         for mm in re.finditer(r"let (\w+) = (\w+)((?:\.before)*)\.args in", text):
-            if mm[2] in alias or mm[2] == var:
+            if mm[2] in alias:
                 for old, new in self.n.args.items():
                     text = re.sub(r"(?<![\w.\-'₀])" + mm[1] + r"\." + re.escape(old) + r"(?![\w\-])", mm[1] + "." + new, text)
-        return re.sub(r"(?<![\w.\-'₀])(\w+)((?:\.[^\s(){},.;\[\]]+)+)(?![\w])", one, re.sub(r"(?<![\w.\-'₀])(" + "|".join(a for a in alias if a != var) + r")(?![\w.\-'₀:])", var, text) if len(alias) > 1 else text)
+        names = "|".join(sorted(map(re.escape, alias), key=len, reverse=True))
+
+        def one(m):
+            raw = re.findall(r"\.([^\s(){},.;\[\]]+)", m[3] or "")
+            base, callee, _ = alias[m[2]]
+            rest = [f for f in raw if f != "before"]
+            lead = m[1] or ""
+            if base:
+                fields = self.outs(base + rest, callee)
+            elif rest:
+                fields, callee = self.resolved(rest, place)
+                fields = self.outs(fields, callee)
+            else:
+                helper = lead.strip()
+                k = self.distance(place, self.helpers.get(helper)) if helper in self.helpers else 0
+                fields = ["before"] * k
+            return lead + var + "".join("." + f for f in fields)
+
+        return re.sub(r"((?<![\w.\-'₀])[\w\-']+ )?(?<![\w.\-'₀λ])(" + names + r")((?:\.[^\s(){},.;\[\]]+)*)(?![\w\-'₀:])(?! : )", one, text)
 
 
 def turned_file(names, folder, fn_path, spec_mod):
     proof = os.path.join(folder, "Proof.antt")
     text = open(proof, encoding="utf-8").read()
     head, ds = decls(text)
-    t = Turn(names)
+    helpers = {}
+    for _, name, lines in ds:
+        mp = re.search(r"\((\w+) : (?:tie\.)?(After-[^\s)]+|Then[^\s)]+|Else[^\s)]+|At-[^\s)]+|Start|In-[^\s)]+)", lines[0])
+        if mp:
+            helpers[name] = names.by_old.get(norm(mp[2]))
+    t = Turn(names, helpers)
     last = ds[-1]
     body = " ".join(" ".join(last[2]).split("=", 1)[1].split())
     m = re.search(r"tie\.spec\s*(.*)\)\s*$", body)
@@ -213,7 +260,7 @@ def turned_file(names, folder, fn_path, spec_mod):
             lvars = names.loops[idx][1] if idx < loops else []
             kind = mi[2]
             bodyt = full.split("\n", 1)[1]
-            eq = re.search(re.escape(name) + r"((?: [^\s=]+)*) =", bodyt)
+            eq = re.search(re.escape(name) + r"((?: (?!:)[^\s=]+)*) =", bodyt)
             params = eq[1].split()
             rest = bodyt[eq.end() :]
             unf = bodyt[: eq.start()]
@@ -234,17 +281,17 @@ def turned_file(names, folder, fn_path, spec_mod):
         else:
             mp = re.search(r"\((\w+) : (?:tie\.)?(After-\S+|Then\S+|Else\S+|At-\S+|Start|In-\S+)", full)
             if mp:
-                place = names.by_old.get(norm(mp[2].rstrip(")")))
+                place = helpers.get(name)
                 var = mp[1]
         body = full
         # the variable in the defining equation
-        me = re.search(r"^" + re.escape(name) + r"((?: [^\s=]+)*) =", body, re.M)
+        me = re.search(r"^" + re.escape(name) + r"((?: (?!:)[^\s=]+)*) =", body, re.M)
         if me and me[1].split():
             vs = me[1].split()
             var = vs[0] if goal else var if var in vs else vs[0]
         pieces = body.split("\n", 1)
         sigline, rest = pieces[0], pieces[1] if len(pieces) > 1 else ""
-        sigline = re.sub(r"(tie\.(?:Need|After|Then|Else|At|In|Start)\S*?) invariant\S* decreases\S*", r"\1", sigline)
+        sigline = re.sub(r"(tie\.(?:Need|After|Then|Else|At|In|Start)\S*?) invariant\S* decreases[^\s)]*", r"\1", sigline)
         def place_name(m):
             i = names.by_old.get(norm(m[1]))
             return "goal." + (names.new_places[i] if i is not None else m[1])
