@@ -2,8 +2,8 @@
 use Rattle.choice.specs.Pick.{callees}
 use Rattle.tnc_modulator.specs.Modulator.{all_sound}
 use borrow.Author.Rules.{rules}
-use Rattle.tnc_modulator.proofs.all_sound_lem.Statement.{statement}
-use Rattle.tnc_modulator.proofs.all_sound_lem.Tie as tie
+use Rattle.tnc_modulator.proofs.all_sound.Statement.{statement}
+use Rattle.tnc_modulator.proofs.all_sound.Tie as tie
 
 returns : tie.Need-returns
 unfolding all_sound

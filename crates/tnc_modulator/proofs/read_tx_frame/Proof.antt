@@ -27,7 +27,7 @@ module _ (l : tie.Else1) where
 returns_2 : tie.Need-returns-2
 returns_2 c =
     let i = c.before in let k = i.before in let l = k.before in let a = (start l).args in
-    c.unfilled2.ensures ∙ unsound a.state a.sending a.channel a.packets.now a.streams.now (fit l).0 (fit l).1 (not_no k.all_sound_lem.ensures i.if2.true)
+    c.unfilled2.ensures ∙ unsound a.state a.sending a.channel a.packets.now a.streams.now (fit l).0 (fit l).1 (not_no k.all_sound.ensures i.if2.true)
 
 -- past the tests
 module _ (e : tie.Else2) where
@@ -38,7 +38,7 @@ module _ (e : tie.Else2) where
       → let a = (start l).args in r ≡ given t a.state a.sending a.channel a.packets.now a.streams.now → r ≡ tx_read a.state a.sending a.channel a.packets.now a.streams.now
   past f g h =
       let a = (start l).args in
-      h ∙ passed a.state a.sending a.channel a.packets.now a.streams.now (fit l).0 (fit l).1 (not_yes e.before.all_sound_lem.ensures e.if2.left) f g
+      h ∙ passed a.state a.sending a.channel a.packets.now a.streams.now (fit l).0 (fit l).1 (not_yes e.before.all_sound.ensures e.if2.left) f g
 
 returns_3 : tie.Need-returns-3
 returns_3 c = let m = c.before in let w = m.before.before in past w.before w.transmission.ensures m.enum_told.given.1 c.begin.ensures

@@ -1,0 +1,19 @@
+-- `event_step::end_time` meets its contract. Assumes nothing.
+use Rattle.std.proofs.Common.{ap, ◌∙◌}
+use borrow.Author.Tests.{eq-eqb, ne_eqb}
+use lib.ListN.{length}
+use Rattle.choice.specs.Pick.{pick_yes, pick_no}
+use Rattle.tnc_clock.specs.Clock.{end_time_set}
+use Rattle.event_step.proofs.Numbers.{number_of_four}
+use Rattle.event_step.proofs.Answers.{timed_is}
+use Rattle.event_step.proofs.end_time.Goals as goal
+
+pub returns-then-body-ne4 : goal.returns-then-body-ne4
+returns-then-body-ne4 c = pick_no _ (ne_eqb (length c.args.body.now) 4 c.if-body-ne4.true) c.refuse.ensures
+
+pub returns : goal.returns
+returns c =
+    let a = c.args in
+    let long = c.if-body-ne4.false in pick_yes _ (eq-eqb (length a.body.now) 4 long)
+    (timed_is c.set_tx_end_time-set.result c.answer.ensures c.set_number.ensures
+    (c.set_tx_end_time-set.ensures ∙ ap (end_time_set a.before.tnc a.before.channel) (c.number.ensures ∙ number_of_four a.body.now long c.type_inv.body)))
