@@ -133,6 +133,7 @@ class Turn:
     def __init__(self, names, helpers):
         self.n = names
         self.helpers = helpers
+        self.arms_used = set()
 
     def resolved(self, fields, place):
         """Fields of today for a path without its befores, and the callee of its step."""
@@ -220,7 +221,34 @@ class Turn:
                 path = "(key_of " + path + ")"
             return lead + path
 
-        return re.sub(r"((?<![\w.\-'₀])[\w\-']+ )?(?<![\w.\-'₀λ])(" + names + r")((?:\.[^\s(){},.;\[\]]+)*)(?![\w\-'₀:])(?! : )", one, text)
+        return self.branches(re.sub(r"((?<![\w.\-'₀])[\w\-']+ )?(?<![\w.\-'₀λ])(" + names + r")((?:\.[^\s(){},.;\[\]]+)*)(?![\w\-'₀:])(?! : )", one, text))
+
+    def branches(self, text):
+        """`⊎_elim (λ w. A) (λ w. B) c.if-x.came` is an elim of the branch."""
+        while True:
+            m = re.search(r"⊎_elim ", text)
+            if not m:
+                return text
+            parts, i = [], m.end()
+            for _ in range(2):
+                if i >= len(text) or text[i] != "(":
+                    return text
+                d, e = 0, i
+                while True:
+                    d += text[e] == "("
+                    d -= text[e] == ")"
+                    e += 1
+                    if d == 0:
+                        break
+                parts.append(text[i + 1 : e - 1])
+                i = e + 1
+            mm = re.match(r"(\S+?\.(if-[^\s.]+))\.came", text[i:])
+            ps = [re.match(r"λ (\w+)\. (.*)$", p, re.S) for p in parts]
+            if not mm or not all(ps):
+                return text
+            s = mm[2][3:]
+            self.arms_used.update({f"then-{s}", f"else-{s}"})
+            text = text[: m.start()] + f"(elim {mm[1]}.branch [ then-{s} {ps[0][1]} ↦ {ps[0][2]} | else-{s} {ps[1][1]} ↦ {ps[1][2]} ])" + text[i + mm.end() :]
 
 
 def arrows(typ):
@@ -313,7 +341,7 @@ def turned_file(names, folder, fn_path, spec_mod):
     head, ds = decls(text)
     helpers = {}
     for _, name, lines in ds:
-        mp = re.search(r"\((\w+) : (?:tie\.)?(After-[^\s)]+|Then[^\s)]+|Else[^\s)]+|At-[^\s)]+|Start|In-[^\s)]+)", lines[0])
+        mp = re.search(r"\((\w+) : (?:tie\.)?(Joined\d*|After-[^\s)]+|Then[^\s)]+|Else[^\s)]+|At-[^\s)]+|Start|In-[^\s)]+)", lines[0])
         if mp:
             helpers[name] = names.by_old.get(norm(mp[2]))
     t = Turn(names, helpers)
@@ -370,7 +398,7 @@ def turned_file(names, folder, fn_path, spec_mod):
     out_inv, out_ans = [], []
     # what is said of a place on the way becomes a `let` where it is used
     starts, gone = {}, set()
-    PLACE = r"tie\.(After-[^\s)]+|Then[^\s)]*|Else[^\s)]*|At-[^\s)]+|Start|In-[^\s)]+)(?: invariant\S* decreases[^\s)]*)*"
+    PLACE = r"tie\.(Joined\d*|After-[^\s)]+|Then[^\s)]*|Else[^\s)]*|At-[^\s)]+|Start|In-[^\s)]+)(?: invariant\S* decreases[^\s)]*)*"
     applied, implicit = {}, {}
     for _, name, lines in ds:
         if re.match(r"abbrev " + re.escape(name) + " : " + PLACE + " → " + PLACE + "$", lines[0]):
@@ -434,7 +462,7 @@ def turned_file(names, folder, fn_path, spec_mod):
             for c2, n2, l2 in inner:
                 if n2 not in own:
                     member(c2, n2, "\n".join(l2), mod[1], place, own)
-            gone.add(name)
+            gone.add(id(lines))
         elif name not in goal_of and name not in applied and re.match(r"(?:abbrev )?" + re.escape(name) + r" : (\(\w+ : )?" + PLACE, full):
             member(comment, name, full, "c", None, [])
     word = lambda n: r"(?<![\w.\-'])" + re.escape(n) + r"(?![\w\-'])"
@@ -471,7 +499,7 @@ def turned_file(names, folder, fn_path, spec_mod):
 
     for comment, name, lines in ds[:-1]:
         sig = lines[0]
-        if name in gone:
+        if name in gone or id(lines) in gone:
             continue
         full = "\n".join(lines)
         mi = re.match(r"abbrev (?:pub )?(\S+) : tie\.(invariant|decreases)", sig)
@@ -604,6 +632,8 @@ def turned_file(names, folder, fn_path, spec_mod):
                 keep.append("use Rattle.std.proofs.Common.{" + w + "}")
         if "(ap not " in body and not any(re.search(r"[{ ]not[,}]", k) for k in keep):
             keep.append("use mathlib.Core.Bool.{not}")
+        if module == "Goals" and t.arms_used:
+            keep.append(f"use {spec_mod}.Goals." + "{" + ", ".join(sorted(t.arms_used)) + "}")
         if "key_of " in body:
             keep.insert(0, "use borrow.Enum.Refused.{opened as key_of}")
         return "\n".join(first + keep + [f"use {spec_mod}.{module} as goal", ""] + notes + [body]) + "\n"

@@ -9,9 +9,11 @@ ghost use Rattle.std.specs.Prelude.{◌≤◌};
 use channel::Channel;
 use event_answer::EventBox;
 use event_session::Session;
-use libc::STDOUT_FILENO;
+use std::io::{Read, Write};
 
-fn main() {
+fn main(rt: HostRuntime) {
+    let mut source = rt.stdin();
+    let mut target = rt.stdout();
     let mut input = [0u8; 65536];
     let mut output = [0u8; 65536];
     let mut reader = [0u8; 1713];
@@ -30,11 +32,11 @@ fn main() {
         going: true,
     };
     // A loop needs an end that can be proved: more turns than any input has.
-    let mut turns = u64::MAX;
-    while turns > 0 {
-        turns -= 1;
+    for _ in 0..u64::MAX {
         session = turn(
             session,
+            &mut source,
+            &mut target,
             &mut input,
             &mut output,
             &mut reader,
@@ -51,8 +53,10 @@ fn main() {
 }
 
 // The events that are held whole, as far as the output has room, and their lines; then what follows.
-fn turn(
+fn turn<R: Read, W: Write>(
     session: Session,
+    source: &mut R,
+    target: &mut W,
     input: &mut [u8; 65536],
     output: &mut [u8; 65536],
     reader: &mut [u8; 1713],
@@ -84,7 +88,7 @@ fn turn(
     let used = run.used;
     let wrote = run.wrote;
     let lines: &[u8] = output;
-    if !io::write_all(STDOUT_FILENO, &lines[..wrote]) {
+    if target.write_all(&lines[..wrote]).is_err() {
         return Session {
             station: station,
             from: 0,
@@ -92,5 +96,5 @@ fn turn(
             going: false,
         };
     }
-    event_session::follow(station, input, used, from + used, held)
+    event_session::follow(station, source, target, input, used, from + used, held)
 }

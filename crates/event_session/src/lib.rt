@@ -7,7 +7,7 @@ ghost use Rattle.event_input.specs.Events.{next_at};
 
 use event_answer::EventBox;
 use event_input::Next;
-use libc::{STDIN_FILENO, STDOUT_FILENO};
+use std::io::{Read, Write};
 
 // The bytes of the input that are held and not used stand from index from up to index held.
 #[derive(Clone, Copy)]
@@ -20,8 +20,10 @@ pub struct Session {
 
 // A block used some bytes, and the rest of what is held begins at index at. Where it used some, the next block goes on there; where no event stood whole, more input is read,
 // or the end is told. A kind that is not known ends the run, and so do indexes that do not stand in the input.
-pub fn follow(
+pub fn follow<R: Read, W: Write>(
     station: EventBox,
+    source: &mut R,
+    target: &mut W,
     input: &mut [u8; 65536],
     used: usize,
     at: usize,
@@ -54,10 +56,10 @@ pub fn follow(
     let next = event_input::next_event(&left[..held], at);
     store_shift::shift(input, at, held);
     let kept = held - at;
-    let more = fill(input, kept, next);
+    let more = fill(source, input, kept, next);
     if more == kept {
         let rest: &[u8] = input;
-        finish(station, &rest[..kept]);
+        finish(station, target, &rest[..kept]);
         return stopped;
     }
     Session {
@@ -68,8 +70,9 @@ pub fn follow(
     }
 }
 
-// Reads once behind the bytes that are held, and answers how many are held then. Behind a kind that is not known nothing is read.
-fn fill(input: &mut [u8], held: usize, next: Next) -> usize
+// Reads once behind the bytes that are held, and answers how many are held then. A read that fails gives no bytes. Behind a kind that is not known
+// nothing is read.
+fn fill<R: Read>(source: &mut R, input: &mut [u8], held: usize, next: Next) -> usize
     requires { held ≤ length input.old }
     ensures lower_bound { (held ≤ result) × (result ≤ length input.old) }
     ensures by_index { (k : ℕ) → next ≡ Unknown k → result ≡ held }
@@ -78,16 +81,17 @@ fn fill(input: &mut [u8], held: usize, next: Next) -> usize
         return held;
     }
     let room = &mut input[held..];
-    let got = libc::read(STDIN_FILENO, room);
-    let count = io::count(got, room);
-    held + count
+    match source.read(room) {
+        Ok(count) => held + count,
+        Err(_) => held,
+    }
 }
 
 // What is printed at the end of the input, or at a kind that is not known.
-fn finish(station: EventBox, rest: &[u8]) {
+fn finish<W: Write>(station: EventBox, target: &mut W, rest: &[u8]) {
     let mut line = [0u8; 8];
     let count = event_end::last_line(station, rest, &mut line);
     if count <= 8 {
-        io::write_all(STDOUT_FILENO, &line[..count]);
+        let _ = target.write_all(&line[..count]);
     }
 }

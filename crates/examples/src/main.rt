@@ -4,41 +4,48 @@
 ghost use Rattle.std.specs.Prelude.{◌≡◌, ℕ, ◌<◌, get_or};
 
 use channel::{AccessAnswer, Channel};
-use io::{print_decimal, print_hex};
 use kiss_calls::{KissBuffer, NextAnswer};
-use libc::STDOUT_FILENO;
 use lich::{LichCollection, SegmentAnswer};
 use protocol::LsfFrame;
+use std::io;
+use std::io::Write;
 
-fn main() {
-    crc_line(b"CRC of nothing: ", b"");
-    crc_line(b"CRC of A: ", b"A");
-    crc_line(b"CRC of 123456789: ", b"123456789");
-    crc_line(b"CRC of the bytes 00 to FF: ", &every_byte());
-    lsf_line(b"LSF of port 0: ", lsf_frame::packet_basic());
-    lich_line(b"LICH index 5: ", 5);
-    lich_line(b"LICH index 6: ", 6);
-    stretch_line(b"frames of a stretch of 1711 bytes: ", 1711);
-    stretch_line(b"frames of a stretch of 1712 bytes: ", 1712);
-    channel_line(b"busy at 1000: ", waiting_until(1000, true, false, 0));
+fn main(rt: HostRuntime) -> io::Result<()> {
+    let mut target = rt.stdout();
+    crc_line(&mut target, "CRC of nothing", b"")?;
+    crc_line(&mut target, "CRC of A", b"A")?;
+    crc_line(&mut target, "CRC of 123456789", b"123456789")?;
+    crc_line(&mut target, "CRC of the bytes 00 to FF", &every_byte())?;
+    lsf_line(&mut target, "LSF of port 0", lsf_frame::packet_basic())?;
+    lich_line(&mut target, "LICH index 5", 5)?;
+    lich_line(&mut target, "LICH index 6", 6)?;
+    stretch_line(&mut target, "frames of a stretch of 1711 bytes", 1711)?;
+    stretch_line(&mut target, "frames of a stretch of 1712 bytes", 1712)?;
     channel_line(
-        b"clear at 2920, when a check is due: ",
+        &mut target,
+        "busy at 1000",
+        waiting_until(1000, true, false, 0),
+    )?;
+    channel_line(
+        &mut target,
+        "clear at 2920, when a check is due",
         waiting_until(2920, false, true, 2920),
-    );
+    )?;
     channel_line(
-        b"clear at 4843, when a check is due: ",
+        &mut target,
+        "clear at 4843, when a check is due",
         waiting_until(4843, false, true, 4840),
-    );
+    )?;
     channel_line(
-        b"busy at 4843, when a check is due: ",
+        &mut target,
+        "busy at 4843, when a check is due",
         waiting_until(4843, true, true, 4840),
-    );
+    )
 }
 
-fn crc_line(name: &[u8], input: &[u8]) {
-    io::write_all(STDOUT_FILENO, name);
-    print_hex(STDOUT_FILENO, crc::m17_crc(input) as u64, 4);
-    io::write_all(STDOUT_FILENO, b"\n");
+fn crc_line<W: Write>(target: &mut W, name: &str, input: &[u8]) -> io::Result<()> {
+    let sum = crc::m17_crc(input);
+    writeln!(target, "{name}: {sum:04x}")
 }
 
 fn every_byte() -> [u8; 256]
@@ -53,20 +60,16 @@ fn every_byte() -> [u8; 256]
     out
 }
 
-fn lsf_line(name: &[u8], lsf: LsfFrame) {
-    io::write_all(STDOUT_FILENO, name);
-    let bytes = lsf.0;
-    let mut i = 0;
-    while i < 30 {
-        print_hex(STDOUT_FILENO, bytes[i] as u64, 2);
-        i += 1;
+fn lsf_line<W: Write>(target: &mut W, name: &str, lsf: LsfFrame) -> io::Result<()> {
+    write!(target, "{name}: ")?;
+    for byte in &lsf.0 {
+        write!(target, "{byte:02x}")?;
     }
-    io::write_all(STDOUT_FILENO, b"\n");
+    writeln!(target)
 }
 
 // The number with which a new collection answers a segment of that index.
-fn lich_line(name: &[u8], index: u8) {
-    io::write_all(STDOUT_FILENO, name);
+fn lich_line<W: Write>(target: &mut W, name: &str, index: u8) -> io::Result<()> {
     let set = LichCollection::new().set_segment(index, [0u8; 5]);
     let answer = set.answer;
     let number = match answer {
@@ -74,23 +77,18 @@ fn lich_line(name: &[u8], index: u8) {
         SegmentAnswer::IndexOver5 => 6,
         SegmentAnswer::OutOfBounds => 8,
     };
-    print_decimal(STDOUT_FILENO, number);
-    io::write_all(STDOUT_FILENO, b"\n");
+    writeln!(target, "{name}: {number}")
 }
 
 // A reader is fed FEND, that many other bytes and FEND, one byte at a time, and asked for a frame after each.
-fn stretch_line(name: &[u8], len: usize) {
-    io::write_all(STDOUT_FILENO, name);
+fn stretch_line<W: Write>(target: &mut W, name: &str, len: usize) -> io::Result<()> {
     let mut store = [0u8; 1713];
     let mut reader = fed(KissBuffer::new(), 0xC0, &mut store).buffer;
-    let mut i = 0;
-    while i < len {
+    for _ in 0..len {
         reader = fed(reader, 0x07, &mut store).buffer;
-        i += 1;
     }
     let last = fed(reader, 0xC0, &mut store);
-    print_decimal(STDOUT_FILENO, last.frames);
-    io::write_all(STDOUT_FILENO, b"\n");
+    writeln!(target, "{name}: {}", last.frames)
 }
 
 #[derive(Clone, Copy)]
@@ -136,21 +134,12 @@ fn waiting_until(clock: u64, carrier: bool, waits: bool, check: u64) -> Channel 
     }
 }
 
-fn channel_line(name: &[u8], before: Channel) {
-    io::write_all(STDOUT_FILENO, name);
+fn channel_line<W: Write>(target: &mut W, name: &str, before: Channel) -> io::Result<()> {
     let after = channel_access::access(before);
     let answer = after.answer;
     match answer {
-        AccessAnswer::Sends => {
-            io::write_all(STDOUT_FILENO, b"sends");
-        }
-        AccessAnswer::Waits => {
-            io::write_all(STDOUT_FILENO, b"checks at ");
-            print_decimal(STDOUT_FILENO, after.channel.check);
-        }
-        AccessAnswer::OutOfBounds => {
-            io::write_all(STDOUT_FILENO, b"8");
-        }
+        AccessAnswer::Sends => writeln!(target, "{name}: sends"),
+        AccessAnswer::Waits => writeln!(target, "{name}: checks at {}", after.channel.check),
+        AccessAnswer::OutOfBounds => writeln!(target, "{name}: 8"),
     }
-    io::write_all(STDOUT_FILENO, b"\n");
 }

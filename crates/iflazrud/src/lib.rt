@@ -1,4 +1,5 @@
-// The link for hosts in C and Rust: calls of the crates below under C names, with document 01's numbers in place of enums. `rt staticlib iflazrud` writes the archive.
+// The link for hosts in C and Rust: calls of the crates below under C names, with document 01's numbers in place of enums. `rt lib` in this crate writes the
+// archive out/libiflazrud.a.
 #![tactic(auto)]
 
 ghost use Rattle.std.specs.Prelude.{◌≡◌};

@@ -8,8 +8,9 @@ ghost use Rattle.std.specs.Prelude.{◌<◌, ◌≤◌, ◌≡◌, length};
 
 use kiss_calls::{KissBuffer, NextAnswer, NextFrame, WriteAnswer, Written};
 use kiss_layout::{Built, CommandRead, Decoded, Escaped, PortRead};
-use libc::{STDIN_FILENO, STDOUT_FILENO};
 use protocol::StreamFrame;
+use std::io;
+use std::io::{Read, Write};
 
 // An answer is one number: document 01's number times 65536, and the value, which is less since rooms are shorter.
 const PAYLOAD_TOO_BIG: usize = 65536;
@@ -48,7 +49,9 @@ struct Request {
 }
 
 // Body and room hold whatever lengths of two bytes ask for, so that no length needs a test.
-fn main() {
+fn main(rt: HostRuntime) {
+    let mut source = rt.stdin();
+    let mut target = rt.stdout();
     let mut body = [0u8; 131072];
     let mut room = [0u8; 65536];
     let mut store = [0u8; 1713];
@@ -57,40 +60,47 @@ fn main() {
         answer: 0,
         going: true,
     };
-    let mut turns = u64::MAX;
-    while turns > 0 {
-        turns -= 1;
-        s = turn(s, &mut body, &mut room, &mut store);
+    for _ in 0..u64::MAX {
+        s = turn(
+            s,
+            &mut source,
+            &mut target,
+            &mut body,
+            &mut room,
+            &mut store,
+        );
         if !s.going {
             return;
         }
     }
 }
 
-fn turn(
+fn turn<R: Read, W: Write>(
     s: Session,
+    source: &mut R,
+    target: &mut W,
     body: &mut [u8; 131072],
     room: &mut [u8; 65536],
     store: &mut [u8; 1713],
 ) -> Session {
-    let r = requested(body);
+    let r = requested(source, body);
     count_up(r.from, r.room, room);
-    serve(s, r, body, room, store)
+    serve(s, r, target, body, room, store)
 }
 
-fn requested(body: &mut [u8]) -> Request
+fn requested<R: Read>(source: &mut R, body: &mut [u8]) -> Request
     requires { length body.old ≡ 131072 }
     ensures { (result.room < 65536) × ((result.first ≤ result.end) × (result.end < 131072)) }
 {
     let mut head = [0u8; 8];
-    // Nothing follows a head that is cut, so that one answer serves both reads.
-    let got = io::read_full(STDIN_FILENO, &mut head);
+    let got = source.read_exact(&mut head).is_ok();
     let h: &[u8] = &head;
     let first = two(h, 4);
     let end = first + two(h, 6);
-    let more = io::read_full(STDIN_FILENO, &mut body[..end]);
+    // Nothing is read behind a head that is cut.
+    let more = got && source.read_exact(&mut body[..end]).is_ok();
     Request {
-        whole: (got == 8) & (more == end),
+        whole: more,
         kind: at(h, 0),
         from: at(h, 3),
         room: two(h, 1),
@@ -99,9 +109,10 @@ fn requested(body: &mut [u8]) -> Request
     }
 }
 
-fn serve(
+fn serve<W: Write>(
     mut s: Session,
     r: Request,
+    target: &mut W,
     body: &[u8],
     room: &mut [u8],
     store: &mut [u8; 1713],
@@ -124,20 +135,18 @@ fn serve(
         &mut room[..n],
         store,
     );
-    t.going = wrote(t.answer, &room[..n]);
+    t.going = wrote(target, t.answer, &room[..n]).is_ok();
     t
 }
 
-fn wrote(answer: usize, room: &[u8]) -> bool {
+fn wrote<W: Write>(target: &mut W, answer: usize, room: &[u8]) -> io::Result<()> {
     let start = [
         (answer / 65536 % 256) as u8,
         (answer / 256 % 256) as u8,
         (answer % 256) as u8,
     ];
-    if !io::write_all(STDOUT_FILENO, &start) {
-        return false;
-    }
-    io::write_all(STDOUT_FILENO, room)
+    target.write_all(&start)?;
+    target.write_all(room)
 }
 
 fn two(s: &[u8], i: usize) -> usize
@@ -150,10 +159,8 @@ fn two(s: &[u8], i: usize) -> usize
 fn count_up(from: u8, n: usize, room: &mut [u8; 65536])
     requires { n < 65536 }
 {
-    let mut i = 0;
-    while i < n {
+    for i in 0..n {
         room[i] = ((from as usize + i % 256) % 256) as u8;
-        i += 1;
     }
 }
 

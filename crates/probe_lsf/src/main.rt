@@ -3,9 +3,10 @@
 // thirty bytes, the LSF or in front its meta field, else zero. A request that is cut ends the program.
 #![tactic(auto)]
 
-use libc::{STDIN_FILENO, STDOUT_FILENO};
 use lich::{Assembled, Assembly, LichCollection, SegmentAnswer, SegmentSet, ValidSegments};
 use protocol::{DataType, EncryptionType, LsfFrame, Mode};
+use std::io;
+use std::io::{Read, Write};
 
 // An answer is one number: document 01's number times 65536, and the value.
 const OUT_OF_RANGE: usize = 6 * 65536;
@@ -21,12 +22,12 @@ struct Session {
     going: bool,
 }
 
-fn main() {
+fn main(rt: HostRuntime) {
+    let mut source = rt.stdin();
+    let mut target = rt.stdout();
     let mut s = told(LichCollection::new(), 0, [0u8; 30]);
-    let mut turns = u64::MAX;
-    while turns > 0 {
-        turns -= 1;
-        s = turn(s);
+    for _ in 0..u64::MAX {
+        s = turn(s, &mut source, &mut target);
         if !s.going {
             return;
         }
@@ -42,31 +43,28 @@ fn told(lich: LichCollection, answer: usize, bytes: [u8; 30]) -> Session {
     }
 }
 
-fn turn(mut s: Session) -> Session {
+fn turn<R: Read, W: Write>(mut s: Session, source: &mut R, target: &mut W) -> Session {
     let mut head = [0u8; 2];
     let mut bytes = [0u8; 30];
-    io::read_full(STDIN_FILENO, &mut head);
-    // Where the head was cut nothing follows it.
-    s.going = io::read_full(STDIN_FILENO, &mut bytes) == 30;
+    // Nothing is read behind a head that is cut.
+    s.going = source.read_exact(&mut head).is_ok() && source.read_exact(&mut bytes).is_ok();
     if !s.going {
         return s;
     }
     let mut t = ask(head[0], head[1], bytes, s.lich);
     let out = t.bytes;
-    t.going = wrote(t.answer, out);
+    t.going = wrote(target, t.answer, out).is_ok();
     t
 }
 
-fn wrote(answer: usize, bytes: [u8; 30]) -> bool {
+fn wrote<W: Write>(target: &mut W, answer: usize, bytes: [u8; 30]) -> io::Result<()> {
     let start = [
         (answer / 65536 % 256) as u8,
         (answer / 256 % 256) as u8,
         (answer % 256) as u8,
     ];
-    if !io::write_all(STDOUT_FILENO, &start) {
-        return false;
-    }
-    io::write_all(STDOUT_FILENO, &bytes)
+    target.write_all(&start)?;
+    target.write_all(&bytes)
 }
 
 fn ask(kind: u8, v: u8, bytes: [u8; 30], lich: LichCollection) -> Session {

@@ -1,4 +1,4 @@
-// The TNC for hosts in C and Rust: one function that applies an event to it, over a record without enums. `rt staticlib tnc_link` writes the archive.
+// The TNC for hosts in C and Rust: one function that applies an event to it, over a record without enums. `tnc_link_c` exports it to C.
 #![tactic(auto)]
 
 ghost use Rattle.std.specs.Prelude.{◌≡◌};
@@ -51,16 +51,14 @@ pub struct EventAnswer {
     pub saved: Saved,
 }
 
-#[unsafe(no_mangle)]
-pub extern "C" fn iflazrud_tnc_new() -> Saved
+pub fn iflazrud_tnc_new() -> Saved
     ensures { result ≡ new_saved }
 {
     save(tnc_new::new(), Channel::new())
 }
 
 // One event of document 01's event program: its kind and its body.
-#[unsafe(no_mangle)]
-pub extern "C" fn iflazrud_tnc_event(
+pub fn iflazrud_tnc_event(
     saved: Saved,
     kind: u8,
     body: &[u8],
