@@ -1,5 +1,6 @@
-/* Cuts the frames out of standard input and prints each in hex.
-   rt staticlib iflazrud && cc -o frames link/example.c target/staticlib/libiflazrud.a && printf '\125\300\001\005\300\002\006\300' | ./frames   (on x86-64) */
+/* Cuts the frames out of standard input and prints each in hex. At the top of the repository, on x86-64:
+   (cd crates/iflazrud && rt lib) && cc -o frames link/example.c crates/iflazrud/out/libiflazrud.a
+   printf '\125\300\001\005\300\002\006\300' | ./frames */
 #include "iflazrud.h"
 #include <stdio.h>
 

@@ -1,5 +1,6 @@
-/* The functions of target/staticlib/libiflazrud.a (rt staticlib iflazrud), for C on x86-64. Each is proved to meet the contract in crates/iflazrud/src/lib.rt for every
-   argument; what C owes is that each pointer leads to as many bytes as the length behind it says, and that no two of them overlap. */
+/* The functions of crates/iflazrud/out/libiflazrud.a (`rt lib` in crates/iflazrud makes it), for C on x86-64. Each is
+   proved to meet the contract in crates/iflazrud/src/lib.rt for every argument; what C owes is that each pointer leads to
+   as many bytes as the length behind it says, and that no two of them overlap. */
 #ifndef IFLAZRUD_H
 #define IFLAZRUD_H
 #include <stdbool.h>

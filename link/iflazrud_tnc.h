@@ -1,6 +1,7 @@
-/* The TNC in target/staticlib/libtnc_link.a (rt staticlib tnc_link), for C on x86-64: a record that the host keeps, five stores, and one function that applies an event of
-   document 01. It is proved to meet the contract in crates/tnc_link/src/lib.rt for every argument; what C owes is that each pointer leads to as many bytes as the length
-   behind it says, and that no two of them overlap. */
+/* The TNC in libtnc_link.a, for C on x86-64: a record that the host keeps, five stores, and one function that applies an
+   event of document 01. `rt lib` in crates/tnc_link_c makes the archive, as out/libtnc_link_c.a there; copy it to
+   libtnc_link.a. It is proved to meet the contract in crates/tnc_link_c/src/lib.rt for every argument; what C owes is
+   that each pointer leads to as many bytes as the length behind it says, and that no two of them overlap. */
 #ifndef IFLAZRUD_TNC_H
 #define IFLAZRUD_TNC_H
 #include <stdbool.h>

@@ -1,5 +1,7 @@
 /* Document 01's example, event by event: six bytes from the host and a read for the modulator.
-   rt staticlib tnc_link && cc -o ticket link/tnc_example.c target/staticlib/libtnc_link.a && ./ticket   (on x86-64)
+   At the top of the repository, on x86-64,
+   (cd crates/tnc_link_c && rt lib) && cp crates/tnc_link_c/out/libtnc_link_c.a libtnc_link.a
+   cc -o ticket link/tnc_example.c libtnc_link.a && ./ticket
    prints `01 0 0` six times, then `08 1 1 0A`. */
 #include "iflazrud_tnc.h"
 #include <stdio.h>

@@ -41,7 +41,7 @@ returns-in-0-to-25 c =
     let by_answer : (d : Decoded) → c.decode_payload-decoded.result ≡ d → decoded_pushed d c.args.queue payload c.args.store.now ≡ pushed c.args.queue c.args.frame.now c.args.store.now = λ d g. let a = c.args in pushed-decoded a.queue a.frame.now a.store.now (full) (sound) payload c.decode_payload-decoded.ensures d g in
     let a = c.args in
     (λ t. (c.unchanged-in-0-to-25.ensures t, a.store.now))
-    ∙ payload_short _ a.queue (payload) a.store.now (omega (arith, c.in-0-to-25.if-n-lt26-own.true))
+    ∙ payload_short _ a.queue (payload) a.store.now (omega arith)
     ∙ by_answer (Payload _) c.in-Payload.is
 
 pub returns-in-26-to-29 : goal.returns-in-26-to-29
@@ -52,7 +52,7 @@ returns-in-26-to-29 c =
     let by_answer : (d : Decoded) → c.decode_payload-decoded.result ≡ d → decoded_pushed d c.args.queue payload c.args.store.now ≡ pushed c.args.queue c.args.frame.now c.args.store.now = λ d g. let a = c.args in pushed-decoded a.queue a.frame.now a.store.now (full) (sound) payload c.decode_payload-decoded.ensures d g in
     let a = c.args in
     c.push_data.ensures
-    ∙ payload_data _ a.queue (payload) a.store.now (omega (arith, c.in-26-to-29.if-n-lt26-own.false)) (omega (arith, c.in-26-to-29.if-n-lt30-own.true))
+    ∙ payload_data _ a.queue (payload) a.store.now (omega arith) (omega arith)
     ∙ by_answer (Payload _) c.in-Payload.is
 
 pub returns-in_default : goal.returns-in_default
@@ -63,5 +63,5 @@ returns-in_default c =
     let by_answer : (d : Decoded) → c.decode_payload-decoded.result ≡ d → decoded_pushed d c.args.queue payload c.args.store.now ≡ pushed c.args.queue c.args.frame.now c.args.store.now = λ d g. let a = c.args in pushed-decoded a.queue a.frame.now a.store.now (full) (sound) payload c.decode_payload-decoded.ensures d g in
     let a = c.args in
     c.push_lsf.ensures
-    ∙ payload_lsf _ a.queue (payload) a.store.now (omega (arith, c.in_default.if-n-lt30-own.false))
+    ∙ payload_lsf _ a.queue (payload) a.store.now (omega arith)
     ∙ by_answer (Payload _) c.in-Payload.is
