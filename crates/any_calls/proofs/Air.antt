@@ -22,7 +22,8 @@ use Rattle.state.specs.declared.Reception.TheVariants.{Nothing, Acquiring as Seg
 use Rattle.state.specs.declared.State.{State}
 use Rattle.state.specs.State.{transmits, reception_of}
 use Rattle.radio.specs.declared.Radio.{Radio}
-use Rattle.radio.specs.declared.AirAnswer.{AirAnswer}
+use Rattle.std.specs.Prelude.{Result}
+use Rattle.radio.specs.declared.AirError.{AirError}
 use Rattle.radio.specs.declared.Heard.{Heard}
 use Rattle.radio.specs.declared.Hears.{Hears}
 use Rattle.radio.specs.declared.Hears.TheVariants.{Frame, Answer}
@@ -64,7 +65,7 @@ hears_sound w e = go (subst told-frame (sym e) Prim.tt)
         (λ u. pick_all (λ (k : Hears). told-frame k → sound_tnc w.tnc ≡ true) (sound_tnc w.tnc) _ _ (λ v i. v) (λ v. absurd)) (λ u. absurd)) (λ t. absurd)
 
 -- what holds of every refusal, and of what the radio comes to in a sound TNC, holds of a frame
-pub each_heard : (w : World) (h : Heard × List ℕ × List ℕ) (Q : TncHeard × List ℕ × List ℕ → Type 0) → ((a : AirAnswer) → Q (record { answer = a; tnc = w.tnc }, w.rx, w.message))
+pub each_heard : (w : World) (h : Heard × List ℕ × List ℕ) (Q : TncHeard × List ℕ × List ℕ → Type 0) → ((a : (Result (Unit {0}) AirError)) → Q (record { answer = a; tnc = w.tnc }, w.rx, w.message))
     → (sound_tnc w.tnc ≡ true → Q (put_heard w.tnc h.0, h.1, h.2)) → Q (hears w h)
 unfolding air_heard
 each_heard w h Q f d = go (tnc_hears w.tnc w.rx w.message) refl

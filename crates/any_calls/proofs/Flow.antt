@@ -8,10 +8,10 @@ use native.Mathlib.Omega.{arith}
 use lib.Dec.{ltb, eqb}
 use Rattle.choice.specs.Pick.{pick}
 use Rattle.kiss_layout.specs.declared.KissCommand.TheVariants.{DataFrame, TxDelay, P, FullDuplex}
-use Rattle.kiss_layout.specs.declared.PortRead.{PortRead}
-use Rattle.kiss_layout.specs.declared.PortRead.TheVariants.{Port, MalformedKissFrame as NoPort}
-use Rattle.kiss_layout.specs.declared.CommandRead.{CommandRead}
-use Rattle.kiss_layout.specs.declared.CommandRead.TheVariants.{Command, MalformedKissFrame as NoCommand, UnsupportedKissCommand as NoSuch}
+use Rattle.std.specs.Prelude.{Option, ℕ, None, Some, Result, Ok, Err}
+use Rattle.kiss_layout.specs.declared.KissCommand.{KissCommand}
+use Rattle.kiss_layout.specs.declared.KissError.{KissError}
+use Rattle.kiss_layout.specs.declared.KissError.TheVariants.{MalformedKissFrame as NoCommand, UnsupportedKissCommand as NoSuch, MalformedKissFrame as NoPort}
 use Rattle.kiss_layout.specs.Read.{port_read, command_read}
 use Rattle.kiss_calls.specs.declared.WriteAnswer.{WriteAnswer}
 use Rattle.kiss_calls.specs.declared.WriteAnswer.TheVariants.{Done, Full, WrongStore as NoRoom, OutOfBounds as NoState}
@@ -25,8 +25,6 @@ use Rattle.state.specs.declared.Transmission.{Transmission}
 use Rattle.state.specs.State.{transmission_of}
 use Rattle.radio.specs.declared.Heard.{Heard}
 use Rattle.host_record.specs.declared.Host.{Host}
-use Rattle.host_frame.specs.declared.Setting.{Setting}
-use Rattle.host_frame.specs.declared.Setting.TheVariants.{Value, Nothing}
 use Rattle.host_frame.specs.declared.FrameTaken.{FrameTaken}
 use Rattle.host_frame.specs.Setting.{setting_in, delay_set, duplex_of}
 use Rattle.host_frame.specs.Data.{data_taken}
@@ -103,13 +101,13 @@ module _ {A : Type 0} (L : PacketQueue → StreamQueue → List ℕ → List ℕ
         same : Adds x x []
         same = (sym (append-nil (left_in x)), k)
 
-        delays : (v : Setting) → Adds x (boxed (delay_set v x.host, x.packets, x.streams)) []
-        delays Nothing = same
-        delays (Value byte) = same
+        delays : (v : (Option ℕ)) → Adds x (boxed (delay_set v x.host, x.packets, x.streams)) []
+        delays None = same
+        delays (Some byte) = same
 
-        duplexes : (v : Setting) → Adds x (boxed (duplex_of v x.host, x.packets, x.streams)) []
-        duplexes Nothing = same
-        duplexes (Value byte) = same
+        duplexes : (v : (Option ℕ)) → Adds x (boxed (duplex_of v x.host, x.packets, x.streams)) []
+        duplexes None = same
+        duplexes (Some byte) = same
 
         by_data : (other zero one : Bool) (port : ℕ) → eqb port 0 ≡ zero → eqb port 1 ≡ one
             → Adds x (boxed (pick other (x.host, x.packets, x.streams) (data_taken port x.host f x.packets x.streams))) (pick other [] (pick zero (basic x f) (pick one (full x f) (stream x f))))
@@ -125,19 +123,19 @@ module _ {A : Type 0} (L : PacketQueue → StreamQueue → List ℕ → List ℕ
         still true y w e a = same
         still false y w e a = subst (λ (z : HostBox). Adds x z []) (sym e) a
 
-        by_command_lem : (c : CommandRead) (port : ℕ)
-            → Adds x (boxed (pick (ltb 2 port) (x.host, x.packets, x.streams) (by_command c port x.host f x.packets x.streams))) (of_data (basic x f) (full x f) (stream x f) (Port port) c)
-        by_command_lem NoCommand port = still (ltb 2 port) x _ refl same
-        by_command_lem NoSuch port = still (ltb 2 port) x _ refl same
-        by_command_lem (Command DataFrame) port = by_data (ltb 2 port) (eqb port 0) (eqb port 1) port refl refl
-        by_command_lem (Command TxDelay) port = still (ltb 2 port) _ _ refl (delays (setting_in f))
-        by_command_lem (Command P) port = still (ltb 2 port) x _ refl same
-        by_command_lem (Command FullDuplex) port = still (ltb 2 port) _ _ refl (duplexes (setting_in f))
+        by_command_lem : (c : (Result KissCommand KissError)) (port : ℕ)
+            → Adds x (boxed (pick (ltb 2 port) (x.host, x.packets, x.streams) (by_command c port x.host f x.packets x.streams))) (of_data (basic x f) (full x f) (stream x f) (Ok port) c)
+        by_command_lem (Err NoCommand) port = still (ltb 2 port) x _ refl same
+        by_command_lem (Err NoSuch) port = still (ltb 2 port) x _ refl same
+        by_command_lem (Ok DataFrame) port = by_data (ltb 2 port) (eqb port 0) (eqb port 1) port refl refl
+        by_command_lem (Ok TxDelay) port = still (ltb 2 port) _ _ refl (delays (setting_in f))
+        by_command_lem (Ok P) port = still (ltb 2 port) x _ refl same
+        by_command_lem (Ok FullDuplex) port = still (ltb 2 port) _ _ refl (duplexes (setting_in f))
 
-        by_port_lem : (p : PortRead) → Adds x (boxed (by_port p x.host f x.packets x.streams)) (of_data (basic x f) (full x f) (stream x f) p (command_read f))
+        by_port_lem : (p : (Result ℕ KissError)) → Adds x (boxed (by_port p x.host f x.packets x.streams)) (of_data (basic x f) (full x f) (stream x f) p (command_read f))
         unfolding obeyed_on
-        by_port_lem NoPort = same
-        by_port_lem (Port port) = by_command_lem (command_read f) port
+        by_port_lem (Err NoPort) = same
+        by_port_lem (Ok port) = by_command_lem (command_read f) port
 
         one_frame : Adds x (after_frame x f) (g x f)
         unfolding obeyed

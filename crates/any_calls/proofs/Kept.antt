@@ -9,8 +9,10 @@ use lib.ListN.{length}
 use borrow.Author.Tests.{eq-eqb}
 use Rattle.choice.specs.Pick.{pick, pick_all, and_fst, and_snd, and_both}
 use Rattle.channel.specs.declared.Channel.{Channel}
-use Rattle.channel.specs.declared.ChannelAnswer.{ChannelAnswer}
-use Rattle.channel.specs.declared.ChannelAnswer.TheVariants.{Done as Set, OutOfRange as TooLate, OutOfBounds as NotSet}
+use Rattle.std.specs.Prelude.{Result, Ok, Err, Bool}
+use Rattle.channel.specs.declared.ChannelError.{ChannelError}
+use Rattle.channel.specs.declared.ChannelError.TheVariants.{OutOfRange as TooLate, OutOfBounds as NotSet}
+use Rattle.room.specs.declared.LentError.{LentError}
 use Rattle.channel.specs.declared.ChannelSet.{ChannelSet}
 use Rattle.channel.specs.Access.{LAST, sound_channel, with_clock, is_set, clock_set, carrier_set, set_number}
 use Rattle.channel.proofs.Kept as channel
@@ -29,7 +31,6 @@ use Rattle.tnc_modulator.specs.Promises.{Box as TxBox, after_read, read_of, Soun
 use Rattle.tnc_modulator.proofs.Kept as modulator
 use Rattle.tnc_core.specs.declared.Tnc.{Tnc}
 use Rattle.tnc_clock.specs.declared.Timed.{Timed}
-use Rattle.tnc_core.specs.declared.Ptt.{Ptt}
 use Rattle.tnc_core.specs.Tnc.{sound_tnc, ptt_of, with_state, ptt_number}
 use Rattle.tnc_clock.specs.Clock.{FARTHEST, on_clock, now_set, end_time_set}
 use Rattle.tnc_clock.specs.Promises.{Kept}
@@ -75,10 +76,10 @@ timed-kept : (w : World) (r : Timed) → Kept w.tnc w.channel r → after_timed 
 timed-kept w r k = λ i. with_both w (k.its_tnc i) (k.its_channel i)
 
 -- the time changes the state at most
-clock_leaves : (P : Tnc → Type 0) (a : ChannelAnswer) (t : Tnc) (c : Channel) (n : ℕ) → P t → P (with_state t (time_reached t.radio.state n)) → P (on_clock a t c n).tnc
-clock_leaves P Set t c n p f = f
-clock_leaves P TooLate t c n p f = p
-clock_leaves P NotSet t c n p f = p
+clock_leaves : (P : Tnc → Type 0) (a : (Result (Unit {0}) ChannelError)) (t : Tnc) (c : Channel) (n : ℕ) → P t → P (with_state t (time_reached t.radio.state n)) → P (on_clock a t c n).tnc
+clock_leaves P (Ok tt) t c n p f = f
+clock_leaves P (Err TooLate) t c n p f = p
+clock_leaves P (Err NotSet) t c n p f = p
 
 pub now_leaves : (P : Tnc → Type 0) (t : Tnc) (c : Channel) (n : ℕ) → P t → P (with_state t (time_reached t.radio.state n)) → P (now_set t c n).tnc
 unfolding now_set
@@ -111,15 +112,15 @@ fine : {n : ℕ} → n ≤ 6 → Fine n
 unfolding Fine
 fine h = (λ e. absurd (omega (arith, h, e)), λ e. absurd (omega (arith, h, e)))
 
-clock_fine : (a : ChannelAnswer) (t : Tnc) (c : Channel) (n : ℕ) → set_number a ≤ 6 → set_number (on_clock a t c n).answer ≤ 6
-clock_fine Set t c n h = h
-clock_fine TooLate t c n h = h
-clock_fine NotSet t c n h = h
+clock_fine : (a : (Result (Unit {0}) ChannelError)) (t : Tnc) (c : Channel) (n : ℕ) → set_number a ≤ 6 → set_number (on_clock a t c n).answer ≤ 6
+clock_fine (Ok tt) t c n h = h
+clock_fine (Err TooLate) t c n h = h
+clock_fine (Err NotSet) t c n h = h
 
 now_fine : (t : Tnc) (c : Channel) (n : ℕ) → sound_tnc t ≡ true → sound_channel c ≡ true → set_number (now_set t c n).answer ≤ 6
 unfolding now_set clock_set pick
 now_fine t c n e s =
-    rw (e, s) (clock_fine (pick (leb n LAST) (is_set Set (with_clock c n)) (is_set TooLate c)).answer t _ n
+    rw (e, s) (clock_fine (pick (leb n LAST) (is_set (Ok tt) (with_clock c n)) (is_set (Err TooLate) c)).answer t _ n
     (pick_all (λ (r : ChannelSet). set_number r.answer ≤ 6) (leb n LAST) _ _ (λ u. omega arith) (λ u. omega arith)))
 
 end_fine : (t : Tnc) (c : Channel) (n : ℕ) → sound_tnc t ≡ true → sound_channel c ≡ true → set_number (end_time_set t c n).answer ≤ 6
@@ -132,7 +133,7 @@ carrier_fine c b s = rw s (omega arith)
 
 ptt_fine : (t : Tnc) → sound_tnc t ≡ true → ptt_number (ptt_of t) ≤ 6
 unfolding ptt_of pick
-ptt_fine t e = rw e (pick_all (λ (p : Ptt). ptt_number p ≤ 6) t.ptt _ _ (λ u. omega arith) (λ u. omega arith))
+ptt_fine t e = rw e (pick_all (λ (p : (Result Bool LentError)). ptt_number p ≤ 6) t.ptt _ _ (λ u. omega arith) (λ u. omega arith))
 
 -- ---- reads for the modulator
 

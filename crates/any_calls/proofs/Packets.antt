@@ -9,10 +9,10 @@ use borrow.Author.Tests.{eq-eqb}
 use Rattle.choice.specs.Pick.{pick, and_fst}
 use Rattle.channel.specs.declared.Channel.{Channel}
 use Rattle.kiss_layout.specs.declared.KissCommand.TheVariants.{DataFrame, TxDelay, P, FullDuplex}
-use Rattle.kiss_layout.specs.declared.PortRead.{PortRead}
-use Rattle.kiss_layout.specs.declared.PortRead.TheVariants.{Port, MalformedKissFrame as NoPort}
-use Rattle.kiss_layout.specs.declared.CommandRead.{CommandRead}
-use Rattle.kiss_layout.specs.declared.CommandRead.TheVariants.{Command, MalformedKissFrame as NoCommand, UnsupportedKissCommand as NoSuch}
+use Rattle.std.specs.Prelude.{Result, ℕ, Err, Ok}
+use Rattle.kiss_layout.specs.declared.KissError.{KissError}
+use Rattle.kiss_layout.specs.declared.KissCommand.{KissCommand}
+use Rattle.kiss_layout.specs.declared.KissError.TheVariants.{MalformedKissFrame as NoPort, MalformedKissFrame as NoCommand, UnsupportedKissCommand as NoSuch}
 use Rattle.kiss_layout.specs.Read.{port_read, command_read}
 use Rattle.packets.specs.declared.PacketQueue.{PacketQueue}
 use Rattle.packets.specs.declared.PacketRead.{PacketRead}
@@ -142,18 +142,18 @@ joined-pick false ps qs = refl
 abbrev frames_in : HostBox → List ℕ → List AirFrame
 frames_in x f = of_data (basic_frames x f) (full_frames x f) (no_frames x f) (port_read f) (command_read f)
 
-of_data_lem : (basic full : List Packet) (p : PortRead) (c : CommandRead) → joined (of_data basic full [] p c) ≡ of_data (joined basic) (joined full) [] p c
+of_data_lem : (basic full : List Packet) (p : (Result ℕ KissError)) (c : (Result KissCommand KissError)) → joined (of_data basic full [] p c) ≡ of_data (joined basic) (joined full) [] p c
 unfolding joined
-of_data_lem basic full NoPort c = refl
-of_data_lem basic full (Port port) NoCommand = refl
-of_data_lem basic full (Port port) NoSuch = refl
-of_data_lem basic full (Port port) (Command DataFrame) =
+of_data_lem basic full (Err NoPort) c = refl
+of_data_lem basic full (Ok port) (Err NoCommand) = refl
+of_data_lem basic full (Ok port) (Err NoSuch) = refl
+of_data_lem basic full (Ok port) (Ok DataFrame) =
     joined-pick (ltb 2 port) [] (pick (eqb port 0) basic (pick (eqb port 1) full []))
     ∙ ap (λ (fs : List AirFrame). pick (ltb 2 port) [] fs)
     (joined-pick (eqb port 0) basic (pick (eqb port 1) full []) ∙ ap (λ (fs : List AirFrame). pick (eqb port 0) (joined basic) fs) (joined-pick (eqb port 1) full []))
-of_data_lem basic full (Port port) (Command TxDelay) = refl
-of_data_lem basic full (Port port) (Command P) = refl
-of_data_lem basic full (Port port) (Command FullDuplex) = refl
+of_data_lem basic full (Ok port) (Ok TxDelay) = refl
+of_data_lem basic full (Ok port) (Ok P) = refl
+of_data_lem basic full (Ok port) (Ok FullDuplex) = refl
 
 one_brings : (x : HostBox) (f : List ℕ) → joined (packets_in x f) ≡ frames_in x f
 unfolding packets_in

@@ -1,10 +1,10 @@
 -- That each public call of the TNC has one outcome: what its contract says of its result and of every store that it may write, and that two outcomes which meet it are equal.
 -- From document 01's "What the contracts have to say". Proved in proofs/Determined.antt. Assumes nothing.
-use Rattle.std.specs.Prelude.{ℕ, ◌≡◌, List}
+use Rattle.std.specs.Prelude.{ℕ, ◌≡◌, List, Result, Bool}
 use Rattle.channel.specs.declared.ChannelSet.{ChannelSet}
 use Rattle.channel.specs.Access.{carrier_set}
 use Rattle.tnc_clock.specs.declared.Timed.{Timed}
-use Rattle.tnc_core.specs.declared.Ptt.{Ptt}
+use Rattle.room.specs.declared.LentError.{LentError}
 use Rattle.tnc_core.specs.Tnc.{ptt_of}
 use Rattle.tnc_clock.specs.Clock.{now_set, end_time_set}
 use Rattle.tnc.specs.declared.TncWritten.{TncWritten}
@@ -23,7 +23,7 @@ Outcome (handle_stream f) = TncHeard × List ℕ × List ℕ
 Outcome (set_data_carrier_detect dcd) = ChannelSet
 Outcome (set_now samples) = Timed
 Outcome (set_tx_end_time samples) = Timed
-Outcome ptt = Ptt
+Outcome ptt = (Result Bool LentError)
 Outcome read_tx_frame = TncTx
 
 -- what its contract says of them: `ensures` in the code, with the world for what the call is handed

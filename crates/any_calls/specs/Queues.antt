@@ -1,12 +1,11 @@
 -- What calls of the TNC take into the queues and what they give of them, from document 01's "From the host", "To the modulator" and its queue rule. Assumes nothing.
-use Rattle.std.specs.Prelude.{ℕ, List, [], ◌∷◌, ◌++◌, ltb, eqb}
+use Rattle.std.specs.Prelude.{ℕ, List, [], ◌∷◌, ◌++◌, ltb, eqb, Result, Err, Ok}
 use Rattle.choice.specs.Pick.{pick}
 use Rattle.protocol.specs.declared.StreamFrame.{StreamFrame}
 use Rattle.kiss_layout.specs.declared.KissCommand.TheVariants.{DataFrame, TxDelay, P, FullDuplex}
-use Rattle.kiss_layout.specs.declared.PortRead.{PortRead}
-use Rattle.kiss_layout.specs.declared.PortRead.TheVariants.{Port, MalformedKissFrame as NoPort}
-use Rattle.kiss_layout.specs.declared.CommandRead.{CommandRead}
-use Rattle.kiss_layout.specs.declared.CommandRead.TheVariants.{Command, MalformedKissFrame as NoCommand, UnsupportedKissCommand as NoSuch}
+use Rattle.kiss_layout.specs.declared.KissError.{KissError}
+use Rattle.kiss_layout.specs.declared.KissCommand.{KissCommand}
+use Rattle.kiss_layout.specs.declared.KissError.TheVariants.{MalformedKissFrame as NoPort, MalformedKissFrame as NoCommand, UnsupportedKissCommand as NoSuch}
 use Rattle.kiss_layout.specs.Read.{port_read, command_read}
 use Rattle.kiss_calls.specs.declared.WriteAnswer.{WriteAnswer}
 use Rattle.kiss_calls.specs.declared.WriteAnswer.TheVariants.{Done, Full, WrongStore as NoRoom, OutOfBounds as NoState}
@@ -29,14 +28,14 @@ use Rattle.any_calls.specs.Calls.{World, Call, write_kiss, read_kiss, handle_lsf
 -- ---- from the host
 
 -- of a data frame what belongs to its port: 0, 1 or 2
-abbrev pub of_data : {A : Type 0} → List A → List A → List A → PortRead → CommandRead → List A
-of_data basic full stream NoPort c = []
-of_data basic full stream (Port port) NoCommand = []
-of_data basic full stream (Port port) NoSuch = []
-of_data basic full stream (Port port) (Command DataFrame) = pick (ltb 2 port) [] (pick (eqb port 0) basic (pick (eqb port 1) full stream))
-of_data basic full stream (Port port) (Command TxDelay) = []
-of_data basic full stream (Port port) (Command P) = []
-of_data basic full stream (Port port) (Command FullDuplex) = []
+abbrev pub of_data : {A : Type 0} → List A → List A → List A → Result ℕ KissError → Result KissCommand KissError → List A
+of_data basic full stream (Err NoPort) c = []
+of_data basic full stream (Ok port) (Err NoCommand) = []
+of_data basic full stream (Ok port) (Err NoSuch) = []
+of_data basic full stream (Ok port) (Ok DataFrame) = pick (ltb 2 port) [] (pick (eqb port 0) basic (pick (eqb port 1) full stream))
+of_data basic full stream (Ok port) (Ok TxDelay) = []
+of_data basic full stream (Ok port) (Ok P) = []
+of_data basic full stream (Ok port) (Ok FullDuplex) = []
 
 -- the packet that a frame of the host brings, if it is accepted
 unfoldable pub packets_in : HostBox → List ℕ → List Packet

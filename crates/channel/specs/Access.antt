@@ -1,12 +1,12 @@
 -- Channel access, from document 01 under "Channel access", "Bounds for 8" and answer 6. Assumes nothing.
-use Rattle.std.specs.Prelude.{ℕ, ◌+◌, ◌%◌, ◌^◌, Bool, true, false, ltb, leb, eqb}
+use Rattle.std.specs.Prelude.{ℕ, ◌+◌, ◌%◌, ◌^◌, Bool, true, false, ltb, leb, eqb, Result, Ok, Err}
 use Rattle.choice.specs.Pick.{pick, and}
 use Rattle.channel.specs.declared.Channel.{Channel}
-use Rattle.channel.specs.declared.ChannelAnswer.{ChannelAnswer}
-use Rattle.channel.specs.declared.ChannelAnswer.TheVariants.{Done, OutOfRange, OutOfBounds as NotSet}
+use Rattle.channel.specs.declared.ChannelError.{ChannelError}
+use Rattle.channel.specs.declared.ChannelError.TheVariants.{OutOfRange, OutOfBounds as NotSet, OutOfBounds as NoAccess}
+use Rattle.channel.specs.declared.Access.{Access}
+use Rattle.channel.specs.declared.Access.TheVariants.{Waits, Sends}
 use Rattle.channel.specs.declared.ChannelSet.{ChannelSet}
-use Rattle.channel.specs.declared.AccessAnswer.{AccessAnswer}
-use Rattle.channel.specs.declared.AccessAnswer.TheVariants.{Sends, Waits, OutOfBounds as NoAccess}
 use Rattle.channel.specs.declared.Accessed.{Accessed}
 
 -- the clock's limit, and the time from a check to the next
@@ -43,50 +43,50 @@ without_check c = record { clock = c.clock; carrier = c.carrier; waits = false; 
 
 -- ---- the setters: a clock over 2^62 is refused, and one that goes back is accepted
 
-abbrev pub is_set : ChannelAnswer → Channel → ChannelSet
+abbrev pub is_set : Result (Unit {0}) ChannelError → Channel → ChannelSet
 is_set answer c = record { answer = answer; channel = c }
 
 unfoldable pub clock_set : Channel → ℕ → ChannelSet
-clock_set c n = pick (sound_channel c) (pick (leb n LAST) (is_set Done (with_clock c n)) (is_set OutOfRange c)) (is_set NotSet c)
+clock_set c n = pick (sound_channel c) (pick (leb n LAST) (is_set (Ok tt) (with_clock c n)) (is_set (Err OutOfRange) c)) (is_set (Err NotSet) c)
 
 unfoldable pub carrier_set : Channel → Bool → ChannelSet
-carrier_set c b = pick (sound_channel c) (is_set Done (with_carrier c b)) (is_set NotSet c)
+carrier_set c b = pick (sound_channel c) (is_set (Ok tt) (with_carrier c b)) (is_set (Err NotSet) c)
 
 unfoldable pub duplex_set : Channel → Bool → ChannelSet
-duplex_set c b = pick (sound_channel c) (is_set Done (with_duplex c b)) (is_set NotSet c)
+duplex_set c b = pick (sound_channel c) (is_set (Ok tt) (with_duplex c b)) (is_set (Err NotSet) c)
 
 -- ---- access
 
-abbrev pub is_accessed : AccessAnswer → Channel → Accessed
+abbrev pub is_accessed : Result Access ChannelError → Channel → Accessed
 is_accessed answer c = record { answer = answer; channel = c }
 
 -- checks at now + 1,920
 unfoldable pub check_later : Channel → Accessed
-check_later c = is_accessed Waits (with_check c (c.clock + SLOT))
+check_later c = is_accessed (Ok Waits) (with_check c (c.clock + SLOT))
 
 -- a pending check: once it is due, sends only if the carrier is off and now mod 4 is 3, and otherwise checks again
 unfoldable pub check_due : Channel → Accessed
 check_due c =
-    pick (ltb c.clock c.check) (is_accessed Waits c)
-    (pick c.carrier (check_later c) (pick (eqb (c.clock % 4) 3) (is_accessed Sends (without_check c)) (check_later c)))
+    pick (ltb c.clock c.check) (is_accessed (Ok Waits) c)
+    (pick c.carrier (check_later c) (pick (eqb (c.clock % 4) 3) (is_accessed (Ok Sends) (without_check c)) (check_later c)))
 
 -- full duplex skips all this; with no check pending busy sets one, and clear sends
 unfoldable pub accessed : Channel → Accessed
 accessed c =
     pick (sound_channel c)
-    (pick c.duplex (is_accessed Sends c)
+    (pick c.duplex (is_accessed (Ok Sends) c)
     (pick c.waits (check_due c)
-    (pick c.carrier (check_later c) (is_accessed Sends c))))
-    (is_accessed NoAccess c)
+    (pick c.carrier (check_later c) (is_accessed (Ok Sends) c))))
+    (is_accessed (Err NoAccess) c)
 
 -- ---- document 01's numbers for the answers
 
-abbrev pub set_number : ChannelAnswer → ℕ
-set_number Done = 0
-set_number OutOfRange = 6
-set_number NotSet = 8
+abbrev pub set_number : Result (Unit {0}) ChannelError → ℕ
+set_number (Ok tt) = 0
+set_number (Err OutOfRange) = 6
+set_number (Err NotSet) = 8
 
-abbrev pub access_number : AccessAnswer → ℕ
-access_number Sends = 0
-access_number Waits = 0
-access_number NoAccess = 8
+abbrev pub access_number : Result Access ChannelError → ℕ
+access_number (Ok Sends) = 0
+access_number (Ok Waits) = 0
+access_number (Err NoAccess) = 8

@@ -1,7 +1,7 @@
 -- What is promised of channel access over its calls, from document 01. Each is proved in proofs/Kept.antt. Assumes nothing.
-use Rattle.std.specs.Prelude.{ℕ, Bool, true, false, ◌≢◌, ◌≡◌}
+use Rattle.std.specs.Prelude.{ℕ, Bool, true, false, ◌≢◌, ◌≡◌, Ok}
 use Rattle.channel.specs.declared.Channel.{Channel}
-use Rattle.channel.specs.declared.AccessAnswer.TheVariants.{Sends}
+use Rattle.channel.specs.declared.Access.TheVariants.{Sends}
 use Rattle.channel.specs.Access.{new_channel, sound_channel, clock_set, carrier_set, duplex_set, accessed, set_number, access_number}
 
 -- a new channel is sound, and a sound one stays sound, whatever the call
@@ -29,8 +29,8 @@ RefusedKeepsAll = (c : Channel) → Kept c
 
 -- while a carrier is heard nobody sends, but in full duplex
 abbrev pub CarrierHoldsBack : Type 0
-CarrierHoldsBack = (c : Channel) → c.carrier ≡ true → c.duplex ≡ false → (accessed c).answer ≢ Sends
+CarrierHoldsBack = (c : Channel) → c.carrier ≡ true → c.duplex ≡ false → (accessed c).answer ≢ (Ok Sends)
 
 -- full duplex always sends, and leaves a pending check pending
 abbrev pub DuplexSends : Type 0
-DuplexSends = (c : Channel) → sound_channel c ≡ true → c.duplex ≡ true → accessed c ≡ record { answer = Sends; channel = c }
+DuplexSends = (c : Channel) → sound_channel c ≡ true → c.duplex ≡ true → accessed c ≡ record { answer = Ok Sends; channel = c }

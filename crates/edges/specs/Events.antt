@@ -1,6 +1,6 @@
 -- The event program's events and lines at the edges of document 01's "Event program".
 -- Each fact rules out the wrong answer that it is named after. Assumes nothing.
-use Rattle.std.specs.Prelude.{ℕ, Bool, true, false, ◌≡◌, List, [], ◌∷◌, replicate}
+use Rattle.std.specs.Prelude.{ℕ, Bool, true, false, ◌≡◌, List, [], ◌∷◌, replicate, Ok}
 use Rattle.channel.specs.Access.{new_channel}
 use Rattle.state.specs.declared.State.{State}
 use Rattle.state.specs.declared.State.TheVariants.{Idle, TxPacket}
@@ -10,7 +10,6 @@ use Rattle.tnc_transmit.specs.Calls.{tnc_tx}
 use Rattle.any_calls.specs.Calls.{new_world}
 use Rattle.event_input.specs.declared.Next.TheVariants.{Complete, Cut}
 use Rattle.event_input.specs.Events.{next_at}
-use Rattle.event_line.specs.declared.Line.TheVariants.{Wrote}
 use Rattle.event_line.specs.Line.{written}
 use Rattle.event_open.specs.Inside.{open_run}
 use Rattle.event_tx.specs.Tx.{of_tx}
@@ -42,7 +41,7 @@ pub record Events : Type 0 where
   -- each event prints kind in hex: `08 1 1 0A`
   pub kind_low_digit_first : (written 8 1 true (0x0A ∷ []) (replicate 10 0) 0).1 ≡ 48 ∷ 56 ∷ 32 ∷ 49 ∷ 32 ∷ 49 ∷ 32 ∷ 48 ∷ 65 ∷ 10 ∷ []
   -- a line without bytes ends after PTT: kind, number, PTT, two blanks and the newline are 7 bytes, and the next line begins behind them
-  pub one_place_on : (kind : ℕ) (on : Bool) → (written kind 0 on [] (replicate 7 0) 0).0 ≡ Wrote 7
+  pub one_place_on : (kind : ℕ) (on : Bool) → (written kind 0 on [] (replicate 7 0) 0).0 ≡ Ok 7
   -- PTT is 0 where it is off, `01 0 0`, and 1 where it is on, `01 0 1`
   pub ptt_turned : ((written 1 0 false [] (replicate 7 0) 0).1 ≡ 48 ∷ 49 ∷ 32 ∷ 48 ∷ 32 ∷ 48 ∷ 10 ∷ [])
       × ((written 1 0 true [] (replicate 7 0) 0).1 ≡ 48 ∷ 49 ∷ 32 ∷ 48 ∷ 32 ∷ 49 ∷ 10 ∷ [])

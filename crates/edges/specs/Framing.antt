@@ -1,15 +1,13 @@
 -- What the CRC and the definitions of framing say at their edges, from the M17 specification's CRC vectors and from document 01's "KISS bytes", "The reader's meaning", "LSF, LICH, frames" and answer 7.
 -- Each fact rules out the wrong answer that it is named after. Assumes nothing.
-use Rattle.std.specs.Prelude.{ℕ, Bool, true, false, ◌≡◌, List, [], ◌∷◌, ◌++◌, drop, get_or, replicate}
+use Rattle.std.specs.Prelude.{ℕ, Bool, true, false, ◌≡◌, List, [], ◌∷◌, ◌++◌, drop, get_or, replicate, Ok, Err}
 use Rattle.crc.specs.Crc.{crc_of}
 use Rattle.blocks.specs.Block.{loaded, stored, without}
-use Rattle.room.specs.declared.Copied.TheVariants.{Done}
-use Rattle.room.specs.Room.{shifted}
+use Rattle.kiss_layout.specs.declared.BuildError.TheVariants.{NoRoom as NoFrame}
+use Rattle.room.specs.Room.{shifted, no_room}
 use Rattle.protocol.specs.declared.StreamFrame.{StreamFrame}
-use Rattle.kiss_layout.specs.declared.Escaped.TheVariants.{NoRoom}
 use Rattle.kiss_layout.specs.Escape.{escaped}
 use Rattle.kiss_layout.specs.Unescape.{unescaped}
-use Rattle.kiss_layout.specs.declared.Built.TheVariants.{Frame, NoRoom as NoFrame}
 use Rattle.kiss_layout.specs.Frame.{frame, put_frame}
 use Rattle.kiss_layout.specs.Scan.{not_fend, run_of}
 use Rattle.kiss_stream.specs.Checked.{checked_content}
@@ -34,11 +32,11 @@ pub record Blocks : Type 0 where
 
 pub record Stores : Type 0 where
   -- bytes from place 1 on go to the start
-  pub moved_by_one_left : (a b c : ℕ) → shifted (a ∷ b ∷ c ∷ []) 1 2 ≡ (Done, b ∷ b ∷ c ∷ [])
+  pub moved_by_one_left : (a b c : ℕ) → shifted (a ∷ b ∷ c ∷ []) 1 2 ≡ ((Ok tt), b ∷ b ∷ c ∷ [])
 
 pub record Escaping : Type 0 where
   -- C0 is two bytes escaped: a room of one is left as it is
-  pub uncounted_in_too_little_room : (r : ℕ) → escaped (0xC0 ∷ []) (r ∷ []) ≡ (NoRoom, r ∷ [])
+  pub uncounted_in_too_little_room : (r : ℕ) → escaped (0xC0 ∷ []) (r ∷ []) ≡ ((Err no_room), r ∷ [])
   -- unescaping stops when the room ends; what does not fit is cut off
   pub block_past_the_room : (r : ℕ) → unescaped (replicate 16 0x41) (replicate 15 r) ≡ (15, replicate 15 0x41)
   -- a FESC as last byte gives nothing
@@ -59,8 +57,8 @@ pub record Frames : Type 0 where
   pub stream_index_low : (p : ℕ) (s : List ℕ) → get_or (checked_content (stream_frame 5 0 false p s)).bytes 5 0 ≡ 0xA0
   -- one byte to escape makes a frame of five bytes: a room of four is left as it is
   pub frame_uncounted_in_too_little_room :
-      (h a b c d : ℕ) → (put_frame (frame h (0xC0 ∷ [])) (a ∷ b ∷ c ∷ d ∷ []) ≡ (NoFrame, a ∷ b ∷ c ∷ d ∷ []))
-      × (put_frame (frame h (0x41 ∷ [])) (a ∷ b ∷ c ∷ d ∷ []) ≡ (Frame 4, 0xC0 ∷ h ∷ 0x41 ∷ 0xC0 ∷ []))
+      (h a b c d : ℕ) → (put_frame (frame h (0xC0 ∷ [])) (a ∷ b ∷ c ∷ d ∷ []) ≡ ((Err NoFrame), a ∷ b ∷ c ∷ d ∷ []))
+      × (put_frame (frame h (0x41 ∷ [])) (a ∷ b ∷ c ∷ d ∷ []) ≡ (Ok 4, 0xC0 ∷ h ∷ 0x41 ∷ 0xC0 ∷ []))
 
 pub record Reader : Type 0 where
   -- a FEND right behind sixteen other bytes is found there

@@ -1,8 +1,7 @@
 -- What the channel, the TNC's states, the numbers that they are saved as and the message to the host say at the edges of document 01's "Channel access", "Answer numbers" and "Bounds for 8" and of m17core's tnc.rs.
 -- Each fact rules out the wrong answer that it is named after. Assumes nothing.
-use Rattle.std.specs.Prelude.{ℕ, Bool, true, false, [], ◌∷◌, ◌≡◌, replicate}
-use Rattle.channel.specs.declared.ChannelAnswer.TheVariants.{Done}
-use Rattle.channel.specs.declared.AccessAnswer.TheVariants.{Sends}
+use Rattle.std.specs.Prelude.{ℕ, Bool, true, false, [], ◌∷◌, ◌≡◌, replicate, Ok}
+use Rattle.channel.specs.declared.Access.TheVariants.{Sends}
 use Rattle.channel.specs.Access.{new_channel, clock_set, carrier_set, duplex_set, accessed}
 use Rattle.channel_lent.specs.Lent.{set_by}
 use Rattle.state.specs.declared.State.TheVariants.{Idle, RxAcquiringStream, RxStream, TxEnding, TxEndingAtTime}
@@ -16,16 +15,16 @@ pub record Channels : Type 0 where
   pub new_waits : new_channel ≡ record { clock = 0; carrier = false; waits = false; check = 0; duplex = false }
   -- the clock's setter leaves the carrier flag as it is
   pub carrier_with_the_clock : (w d : Bool) → clock_set (record { clock = 0; carrier = true; waits = w; check = 0; duplex = d }) 1
-      ≡ record { answer = Done; channel = record { clock = 1; carrier = true; waits = w; check = 0; duplex = d } }
+      ≡ record { answer = Ok tt; channel = record { clock = 1; carrier = true; waits = w; check = 0; duplex = d } }
   -- full duplex skips all this: a pending check stays pending
   pub duplex_drops_the_check : (b : Bool) → accessed (record { clock = 0; carrier = b; waits = true; check = 1; duplex = true })
-      ≡ record { answer = Sends; channel = record { clock = 0; carrier = b; waits = true; check = 1; duplex = true } }
+      ≡ record { answer = Ok Sends; channel = record { clock = 0; carrier = b; waits = true; check = 1; duplex = true } }
   -- the carrier flag of the record lent by the caller is set as it is told, off too
   pub carrier_always_heard : (w d : Bool) → set_by (carrier_set (record { clock = 0; carrier = true; waits = w; check = 0; duplex = d }) false)
-      ≡ (Done, record { clock = 0; carrier = false; waits = w; check = 0; duplex = d })
+      ≡ ((Ok tt), record { clock = 0; carrier = false; waits = w; check = 0; duplex = d })
   -- its duplex flag is set as it is told, on too
   pub duplex_never_on : (b w : Bool) → set_by (duplex_set (record { clock = 0; carrier = b; waits = w; check = 0; duplex = false }) true)
-      ≡ (Done, record { clock = 0; carrier = b; waits = w; check = 0; duplex = true })
+      ≡ ((Ok tt), record { clock = 0; carrier = b; waits = w; check = 0; duplex = true })
 
 pub record States : Type 0 where
   -- PTT is on exactly in the five transmit states: it stays on until the clock shows the end

@@ -1,9 +1,9 @@
 -- What an event answers: its number, how many bytes it prints, PTT as after it, from document 01's "Event program". Assumes nothing.
-use Rattle.std.specs.Prelude.{ℕ, Bool, true, false}
+use Rattle.std.specs.Prelude.{ℕ, Bool, true, false, Result, Ok, Err}
 use Rattle.channel.specs.declared.Channel.{Channel}
 use Rattle.tnc_core.specs.declared.Tnc.{Tnc}
-use Rattle.tnc_core.specs.declared.Ptt.{Ptt}
-use Rattle.tnc_core.specs.declared.Ptt.TheVariants.{Off, On, OutOfBounds as NoPtt}
+use Rattle.room.specs.declared.LentError.{LentError}
+use Rattle.room.specs.declared.LentError.TheVariants.{OutOfBounds as NoPtt}
 use Rattle.tnc_core.specs.Tnc.{ptt_of}
 use Rattle.event_answer.specs.declared.EventBox.{EventBox}
 use Rattle.event_answer.specs.declared.Applied.{Applied}
@@ -17,10 +17,10 @@ abbrev pub LINE : ℕ
 LINE = 518
 
 -- PTT; a state out of bounds has none, and prints 0
-abbrev pub on_flag : Ptt → Bool
-on_flag Off = false
-on_flag On = true
-on_flag NoPtt = false
+abbrev pub on_flag : Result Bool LentError → Bool
+on_flag (Ok false) = false
+on_flag (Ok true) = true
+on_flag (Err NoPtt) = false
 
 abbrev pub keyed : Tnc → Bool
 keyed t = on_flag (ptt_of t)

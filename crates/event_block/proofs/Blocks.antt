@@ -10,7 +10,8 @@ use lib.Dec.{ltb, leb}
 use lib.ListN.{length, get_or, take, drop, length-drop, drop_of_length-le}
 use lib.Seq.{drop-cons, drop-drop}
 use Rattle.choice.specs.Pick.{pick, and, and_both}
-use Rattle.event_line.specs.declared.Line.{Line}
+use Rattle.std.specs.Prelude.{Result, ℕ}
+use Rattle.event_line.specs.declared.LineError.{LineError}
 use Rattle.event_input.specs.declared.Next.{Next}
 use Rattle.event_input.specs.declared.Next.TheVariants.{Complete, Cut, Unknown, End}
 use Rattle.event_input.specs.Events.{known, body_len, next_at}
@@ -30,7 +31,7 @@ module _ (k : ℕ) (b : List ℕ) (p : Spot) (fits : p.wrote + LINE ≤ length p
   unfolding stepped turned
   steps =
       let t = applied k b p.world p.bytes in
-      ap (λ (u : Line × List ℕ). spot t.world t.bytes u.1 (place_after u.0 p.wrote)) (sym (written-yes k t.number t.ptt (shown t) p.room p.wrote (one_digit k b p.world p.bytes) (omega (arith, line_fits k t))))
+      ap (λ (u : Result ℕ LineError × List ℕ). spot t.world t.bytes u.1 (place_after u.0 p.wrote)) (sym (written-yes k t.number t.ptt (shown t) p.room p.wrote (one_digit k b p.world p.bytes) (omega (arith, line_fits k t))))
 
   long : (turned k b p).wrote ≤ p.wrote + LINE
   unfolding turned

@@ -5,8 +5,13 @@ use mathlib.Core.Option.{Option, none, some}
 use native.Mathlib.Omega.{arith}
 use lib.ListN.{length, length-take}
 use Rattle.choice.specs.Pick.{pick_all}
-use Rattle.channel.specs.declared.ChannelAnswer.{ChannelAnswer}
-use Rattle.channel.specs.declared.ChannelAnswer.TheVariants.{Done as Set, OutOfRange as SetRange, OutOfBounds as SetBounds}
+use Rattle.std.specs.Prelude.{Result, Ok, Err, Bool, false, true}
+use Rattle.radio.specs.declared.AirError.{AirError}
+use Rattle.radio.specs.declared.AirError.TheVariants.{OutOfRange as AirRange, WrongStore as AirStore, OutOfBounds as AirBounds}
+use Rattle.channel.specs.declared.ChannelError.{ChannelError}
+use Rattle.channel.specs.declared.ChannelError.TheVariants.{OutOfRange as SetRange, OutOfBounds as SetBounds}
+use Rattle.room.specs.declared.LentError.{LentError}
+use Rattle.room.specs.declared.LentError.TheVariants.{OutOfBounds as NoPtt}
 use Rattle.channel.specs.Access.{carrier_set, set_number}
 use Rattle.kiss_calls.specs.declared.WriteAnswer.{WriteAnswer}
 use Rattle.kiss_calls.specs.declared.WriteAnswer.TheVariants.{Done as Written, Full, WrongStore as WriteStore, OutOfBounds as WriteBounds}
@@ -14,14 +19,10 @@ use Rattle.kiss_calls.specs.Calls.{write_number}
 use Rattle.outgoing.specs.declared.HostAnswer.{HostAnswer}
 use Rattle.outgoing.specs.declared.HostAnswer.TheVariants.{Done as Read, WrongStore as ReadStore, OutOfBounds as ReadBounds}
 use Rattle.outgoing.specs.Message.{host_number}
-use Rattle.radio.specs.declared.AirAnswer.{AirAnswer}
-use Rattle.radio.specs.declared.AirAnswer.TheVariants.{Done as Heard, OutOfRange as AirRange, WrongStore as AirStore, OutOfBounds as AirBounds}
 use Rattle.radio.specs.Radio.{air_number}
 use Rattle.tx_frame.specs.declared.TxAnswer.{TxAnswer}
 use Rattle.tx_frame.specs.declared.TxAnswer.TheVariants.{Nothing, Preamble, Lsf, Stream, Packet, EndOfTransmission, WrongStore, OutOfBounds}
 use Rattle.tnc_modulator.specs.Modulator.{kind_number}
-use Rattle.tnc_core.specs.declared.Ptt.{Ptt}
-use Rattle.tnc_core.specs.declared.Ptt.TheVariants.{Off, On, OutOfBounds as NoPtt}
 use Rattle.tnc_core.specs.Tnc.{ptt_of, ptt_number}
 use Rattle.tnc_clock.specs.Clock.{now_set, end_time_set}
 use Rattle.any_calls.specs.Calls.{World, Call, write_kiss, read_kiss, handle_lsf, handle_packet, handle_stream, set_data_carrier_detect, set_now, set_tx_end_time, ptt, read_tx_frame, writes, reads, hears, lsf_in, packet_in, stream_in, gives, number}
@@ -42,21 +43,21 @@ read_digit Read = omega arith
 read_digit ReadStore = omega arith
 read_digit ReadBounds = omega arith
 
-air_digit : (a : AirAnswer) → air_number a ≤ 9
-air_digit Heard = omega arith
-air_digit AirRange = omega arith
-air_digit AirStore = omega arith
-air_digit AirBounds = omega arith
+air_digit : (a : (Result (Unit {0}) AirError)) → air_number a ≤ 9
+air_digit (Ok tt) = omega arith
+air_digit (Err AirRange) = omega arith
+air_digit (Err AirStore) = omega arith
+air_digit (Err AirBounds) = omega arith
 
-set_digit : (a : ChannelAnswer) → set_number a ≤ 9
-set_digit Set = omega arith
-set_digit SetRange = omega arith
-set_digit SetBounds = omega arith
+set_digit : (a : (Result (Unit {0}) ChannelError)) → set_number a ≤ 9
+set_digit (Ok tt) = omega arith
+set_digit (Err SetRange) = omega arith
+set_digit (Err SetBounds) = omega arith
 
-ptt_digit : (a : Ptt) → ptt_number a ≤ 9
-ptt_digit Off = omega arith
-ptt_digit On = omega arith
-ptt_digit NoPtt = omega arith
+ptt_digit : (a : (Result Bool LentError)) → ptt_number a ≤ 9
+ptt_digit (Ok false) = omega arith
+ptt_digit (Ok true) = omega arith
+ptt_digit (Err NoPtt) = omega arith
 
 kind_digit : (a : TxAnswer) → kind_number a ≤ 9
 kind_digit Nothing = omega arith

@@ -23,7 +23,7 @@ use Rattle.kiss_calls.proofs.Cases.{next_sound, written_roomy}
 use Rattle.host_record.specs.declared.Host.{Host}
 use Rattle.host_record.specs.Host.{sound_host}
 use Rattle.tnc_core.specs.declared.Tnc.{Tnc}
-use Rattle.tnc_core.specs.declared.Ptt.TheVariants.{Off, On}
+use Rattle.std.specs.Prelude.{Ok, false, true}
 use Rattle.tnc_core.specs.Tnc.{sound_tnc, ptt_of}
 use Rattle.tnc_core.proofs.Bounds.{parts, joined}
 use Rattle.link_ready.specs.Ready.{link_fits}
@@ -158,7 +158,7 @@ keyed_sound : (t : Tnc) → sound_tnc t ≡ true → keyed t ≡ t.ptt
 unfolding ptt_of pick
 keyed_sound t e = rw e (by t.ptt)
   where
-    by : (on : Bool) → on_flag (pick on On Off) ≡ on
+    by : (on : Bool) → on_flag (pick on (Ok true) (Ok false)) ≡ on
     by true = refl
     by false = refl
 

@@ -7,7 +7,8 @@ use borrow.Author.Tests.{leb-true}
 use lib.ListN.{length, take}
 use Rattle.choice.specs.Pick.{pick_all}
 use Rattle.any_calls.specs.Calls.{World}
-use Rattle.event_line.specs.declared.Line.{Line}
+use Rattle.std.specs.Prelude.{Result, ℕ}
+use Rattle.event_line.specs.declared.LineError.{LineError}
 use Rattle.event_line.specs.Line.{written}
 use Rattle.event_answer.specs.declared.Applied.{Applied}
 use Rattle.event_answer.specs.Answer.{MOST}
@@ -29,9 +30,9 @@ module _ (k : ℕ) (b : List ℕ) (w : World) (room : List ℕ) (a : Applied) (r
       let same : min a.count MOST ≡ min (applied k b w room).count MOST = ap (λ (t : Turn). min t.count MOST) e in
       omega (arith, q, l, same, few k b w room)
 
-  pub step_is : (l : Line) (x : List ℕ) (c z : ℕ) → c ≡ min a.count MOST → (l, x) ≡ written k a.number a.ptt (take c y) d n → z ≡ place_after l n → spot (world_of a.after r p s rx m) y x z ≡ stepped k b (spot w room d n)
+  pub step_is : (l : (Result ℕ LineError)) (x : List ℕ) (c z : ℕ) → c ≡ min a.count MOST → (l, x) ≡ written k a.number a.ptt (take c y) d n → z ≡ place_after l n → spot (world_of a.after r p s rx m) y x z ≡ stepped k b (spot w room d n)
   unfolding stepped
   step_is l x c z q f g =
       (λ j. spot (world_of a.after r p s rx m) y x (g j))
-      ∙ ap (λ (u : Line × List ℕ). spot (world_of a.after r p s rx m) y u.1 (place_after u.0 n)) (f ∙ ap (λ (i : ℕ). written k a.number a.ptt (take i y) d n) q)
+      ∙ ap (λ (u : Result ℕ LineError × List ℕ). spot (world_of a.after r p s rx m) y u.1 (place_after u.0 n)) (f ∙ ap (λ (i : ℕ). written k a.number a.ptt (take i y) d n) q)
       ∙ ap (λ (t : Turn). laid k t d n) e

@@ -12,7 +12,8 @@ use lib.ListN.{length, get_or, set, drop, length-append, drop_of_length-le}
 use lib.Seq.{sets, sets-eq, drop-cons}
 use Rattle.choice.specs.Pick.{pick}
 use Rattle.room.proofs.Runs.{sets_append}
-use Rattle.event_line.specs.declared.Line.TheVariants.{Wrote, NumberOver9, NoRoom}
+use Rattle.std.specs.Prelude.{Err, Ok}
+use Rattle.event_line.specs.declared.LineError.TheVariants.{NumberOver9, NoRoom}
 use Rattle.event_line.specs.Line.{hex_digit, hex_of, flag, tail_of, line_of, stored, fits, written}
 
 pub hex_length : (s : List ℕ) → length (hex_of s) ≡ 2 * length s
@@ -117,14 +118,14 @@ fits_line k n ptt (b ∷ bs) room =
 -- ---- the answers of `put_line`
 
 module _ (k n : ℕ) (ptt : Bool) (bs d : List ℕ) (at : ℕ) where
-  pub written_over : 9 < n → (NumberOver9, d) ≡ written k n ptt bs d at
+  pub written_over : 9 < n → ((Err NumberOver9), d) ≡ written k n ptt bs d at
   unfolding written pick
   written_over h = rw (lt-leb n 9 h)
 
-  pub written_no : n ≤ 9 → length d < at + length (line_of k n ptt bs) → (NoRoom, d) ≡ written k n ptt bs d at
+  pub written_no : n ≤ 9 → length d < at + length (line_of k n ptt bs) → ((Err NoRoom), d) ≡ written k n ptt bs d at
   unfolding written pick
   written_no h g = rw (le-leb n 9 h, lt-leb (at + length (line_of k n ptt bs)) (length d) g)
 
-  pub written-yes : n ≤ 9 → at + length (line_of k n ptt bs) ≤ length d → (Wrote (at + length (line_of k n ptt bs)), sets d at (line_of k n ptt bs)) ≡ written k n ptt bs d at
+  pub written-yes : n ≤ 9 → at + length (line_of k n ptt bs) ≤ length d → (Ok (at + length (line_of k n ptt bs)), sets d at (line_of k n ptt bs)) ≡ written k n ptt bs d at
   unfolding written pick
   written-yes h g = rw (le-leb n 9 h, le-leb (at + length (line_of k n ptt bs)) (length d) g, sets-eq (line_of k n ptt bs) d at g)

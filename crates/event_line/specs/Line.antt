@@ -1,11 +1,11 @@
 -- The line that an event prints, from document 01's "Event program": kind in hex, answer number, PTT, and the bytes in hex where there are any; one blank between
 -- fields, hex in capitals without blanks, numbers decimal. Each line ends with a newline. Assumes nothing.
-use Rattle.std.specs.Prelude.{ℕ, ◌+◌, ◌-◌, ◌*◌, ◌/◌, ◌%◌, Bool, List, [], ◌∷◌, ◌++◌, ltb, leb, eqb, length}
+use Rattle.std.specs.Prelude.{ℕ, ◌+◌, ◌-◌, ◌*◌, ◌/◌, ◌%◌, Bool, List, [], ◌∷◌, ◌++◌, ltb, leb, eqb, length, Result, Ok, Err}
 use Rattle.std.proofs.lemmas.List.Edits.{sets}
 use Rattle.choice.specs.Pick.{pick}
 use Rattle.room.specs.Room.{placed}
-use Rattle.event_line.specs.declared.Line.{Line}
-use Rattle.event_line.specs.declared.Line.TheVariants.{Wrote, NumberOver9, NoRoom}
+use Rattle.event_line.specs.declared.LineError.{LineError}
+use Rattle.event_line.specs.declared.LineError.TheVariants.{NoRoom, NumberOver9}
 
 -- the characters
 abbrev pub BLANK : ℕ
@@ -51,10 +51,10 @@ unfoldable pub fits : ℕ → ℕ → Bool
 fits count room = leb (pick (eqb count 0) 7 (8 + 2 * count)) room
 
 -- the answer of `put_line`, and the room after it: what lies before and beyond the line stays
-unfoldable pub written : ℕ → ℕ → Bool → List ℕ → List ℕ → ℕ → Line × List ℕ
+unfoldable pub written : ℕ → ℕ → Bool → List ℕ → List ℕ → ℕ → Result ℕ LineError × List ℕ
 written kind number ptt bytes d at =
     pick (leb number 9)
     (pick (leb (at + length (line_of kind number ptt bytes)) (length d))
-    (Wrote (at + length (line_of kind number ptt bytes)), placed (line_of kind number ptt bytes) d at)
-    (NoRoom, d))
-    (NumberOver9, d)
+    (Ok (at + length (line_of kind number ptt bytes)), placed (line_of kind number ptt bytes) d at)
+    ((Err NoRoom), d))
+    ((Err NumberOver9), d)

@@ -12,7 +12,8 @@ use lib.Seq.{sets, length-sets, drop-cons}
 use Rattle.choice.specs.Pick.{pick, pick_all, and, pick_yes, pick_no, and_fst, and_snd}
 use Rattle.kiss_layout.specs.Scan.{not_fend}
 use Rattle.event_input.specs.Events.{HOST}
-use Rattle.event_line.specs.declared.Line.{Line}
+use Rattle.std.specs.Prelude.{Result, ℕ}
+use Rattle.event_line.specs.declared.LineError.{LineError}
 use Rattle.event_line.specs.Line.{line_of, written}
 use Rattle.event_line.proofs.Lines.{line_none_long, written-yes}
 use Rattle.event_answer.specs.declared.EventBox.{EventBox}
@@ -62,9 +63,9 @@ unfolding keeps
 kept_room k b room place e = let f = and_snd _ _ (and_snd _ _ e) in (leb-true _ _ (and_fst _ _ f), ltb-true _ _ (and_snd _ _ f))
 
 -- the line that was put
-pub line_put : (on : Bool) (d x : List ℕ) (n : ℕ) {l : Line} → n + 7 ≤ length d → (l, x) ≡ written HOST 0 on [] d n → x ≡ sets d n (line_of HOST 0 on [])
+pub line_put : (on : Bool) (d x : List ℕ) (n : ℕ) {l : (Result ℕ LineError)} → n + 7 ≤ length d → (l, x) ≡ written HOST 0 on [] d n → x ≡ sets d n (line_of HOST 0 on [])
 line_put on d x n h e =
-    ap (λ (t : Line × List ℕ). t.1) (e ∙ sym (written-yes HOST 0 on [] d n (omega arith) (omega (arith, line_none_long HOST 0 on [] refl))))
+    ap (λ (t : Result ℕ LineError × List ℕ). t.1) (e ∙ sym (written-yes HOST 0 on [] d n (omega arith) (omega (arith, line_none_long HOST 0 on [] refl))))
 
 -- ---- the answer of `take_open`
 

@@ -8,8 +8,11 @@ use borrow.Author.Tests.{leb-true}
 use lib.ListN.{length, take, drop, get_or, replicate, length-take, length-drop, length-append}
 use Rattle.choice.specs.Pick.{pick_all}
 use Rattle.channel.specs.declared.Channel.{Channel}
-use Rattle.channel.specs.declared.AccessAnswer.{AccessAnswer}
-use Rattle.channel.specs.declared.AccessAnswer.TheVariants.{Sends, Waits, OutOfBounds as NoAccess}
+use Rattle.std.specs.Prelude.{Result, Ok, Err}
+use Rattle.channel.specs.declared.Access.{Access}
+use Rattle.channel.specs.declared.ChannelError.{ChannelError}
+use Rattle.channel.specs.declared.Access.TheVariants.{Sends, Waits}
+use Rattle.channel.specs.declared.ChannelError.TheVariants.{OutOfBounds as NoAccess}
 use Rattle.channel.specs.Access.{accessed}
 use Rattle.outgoing.specs.declared.HostRead.{HostRead}
 use Rattle.outgoing.specs.Message.{host_read}
@@ -124,11 +127,11 @@ packet_small q store =
 abbrev TxSmall : TxRead → Type 0
 TxSmall r = Small r.lsf r.stream r.packet
 
-allowed_small : (a : AccessAnswer) (state : State) (sending : Sending) (channel : Channel) → TxSmall (allowed a state sending channel)
+allowed_small : (a : (Result Access ChannelError)) (state : State) (sending : Sending) (channel : Channel) → TxSmall (allowed a state sending channel)
 unfolding keyed_up
-allowed_small Sends state sending channel = none_small
-allowed_small Waits state sending channel = none_small
-allowed_small NoAccess state sending channel = none_small
+allowed_small (Ok Sends) state sending channel = none_small
+allowed_small (Ok Waits) state sending channel = none_small
+allowed_small (Err NoAccess) state sending channel = none_small
 
 given_small : (t : Transmission) (state : State) (sending : Sending) (channel : Channel) (packets streams : List ℕ) → TxSmall (given t state sending channel packets streams)
 unfolding begun stream_given packet_given

@@ -10,11 +10,11 @@ use lib.ListN.{length, replicate}
 use borrow.Author.Tests.{lt-ltb, le-ltb}
 use Rattle.choice.specs.Pick.{pick, pick_all, pick_no, and_fst, and_snd, and_both}
 use Rattle.kiss_layout.specs.declared.KissCommand.TheVariants.{DataFrame, TxDelay, P, FullDuplex}
-use Rattle.kiss_layout.specs.declared.PortRead.{PortRead}
-use Rattle.kiss_layout.specs.declared.PortRead.TheVariants.{Port, MalformedKissFrame as NoPort}
-use Rattle.kiss_layout.specs.declared.CommandRead.{CommandRead}
-use Rattle.kiss_layout.specs.declared.CommandRead.TheVariants.{Command, MalformedKissFrame as NoCommand, UnsupportedKissCommand as NoSuch}
-use Rattle.kiss_layout.specs.declared.Decoded.{Decoded}
+use Rattle.std.specs.Prelude.{Err, Ok, Option, ℕ, None, Some, Result}
+use Rattle.room.specs.declared.LentError.TheVariants.{WrongStore, OutOfBounds}
+use Rattle.kiss_layout.specs.declared.KissCommand.{KissCommand}
+use Rattle.kiss_layout.specs.declared.KissError.{KissError}
+use Rattle.kiss_layout.specs.declared.KissError.TheVariants.{MalformedKissFrame as NoCommand, UnsupportedKissCommand as NoSuch, MalformedKissFrame as NoPort}
 use Rattle.kiss_layout.specs.Read.{port_read, command_read}
 use Rattle.kiss_layout.specs.Build.{Building, set_tx_delay, set_full_duplex, frame_of, refusal, content_of, port_of, command_of}
 use Rattle.kiss_layout.specs.Promises.{Accepted}
@@ -28,11 +28,8 @@ use Rattle.streams.proofs.Kept as streams
 use Rattle.sending.specs.Sending.{sound_sending}
 use Rattle.host_record.specs.declared.Host.{Host}
 use Rattle.host_record.specs.Host.{sound_host}
-use Rattle.host_frame.specs.declared.Setting.{Setting}
-use Rattle.host_frame.specs.declared.Setting.TheVariants.{Value, Nothing}
 use Rattle.host_frame.specs.Setting.{with_delay, with_channel, setting_from, setting_in, delay_set, duplex_of}
 use Rattle.host_frame.specs.Data.{data_taken}
-use Rattle.host_frame.specs.declared.FrameAnswer.TheVariants.{Done, WrongStore, OutOfBounds}
 use Rattle.host_frame.specs.declared.FrameTaken.{FrameTaken}
 use Rattle.host_frame.specs.Frame.{by_command, obeyed_on, by_port, obeyed, answered, frame_taken, frame_number}
 use Rattle.host_frame.specs.Promises.{Box, taken_at, left_by, after, Sound, NewIsSound, RefusedKeepsAll, SoundStaysSound, OtherPortsIgnored, with_host, BuiltSettingsAreTaken}
@@ -43,8 +40,8 @@ unfolding sound_host sound_sending
 new_is_sound = and_both (and_both packets.new_is_sound (streams.new_is_sound (replicate STREAMS 0) refl).its_state) channels.new_is_sound
 
 -- what holds of a frame that is obeyed and of every refusal holds of what comes of a frame
-each : (x : Box) (frame : List ℕ) (Q : FrameTaken × List ℕ × List ℕ → Type 0) → Q (answered WrongStore (x.host, x.packets, x.streams)) → Q (answered OutOfBounds (x.host, x.packets, x.streams))
-    → Q (answered Done (obeyed x.host frame x.packets x.streams)) → Q (taken_at x frame)
+each : (x : Box) (frame : List ℕ) (Q : FrameTaken × List ℕ × List ℕ → Type 0) → Q (answered (Err WrongStore) (x.host, x.packets, x.streams)) → Q (answered (Err OutOfBounds) (x.host, x.packets, x.streams))
+    → Q (answered (Ok tt) (obeyed x.host frame x.packets x.streams)) → Q (taken_at x frame)
 unfolding frame_taken
 each x frame Q w o d =
     pick_all Q (eqb (length x.packets) PACKETS) _ _
@@ -69,15 +66,15 @@ module _ (x : Box) (frame : List ℕ) (s : Sound x) where
   unfolding sound_host
   channel_sound = and_snd _ _ s.its_host
 
-  delay_sound : (v : Setting) → Leaves (delay_set v x.host, x.packets, x.streams)
+  delay_sound : (v : (Option ℕ)) → Leaves (delay_set v x.host, x.packets, x.streams)
   unfolding sound_host sound_sending
-  delay_sound Nothing = s
-  delay_sound (Value byte) = record { its_packets = s.its_packets; its_streams = s.its_streams; its_host = and_both (and_both (and_fst _ _ sending_sound) (and_snd _ _ sending_sound)) channel_sound }
+  delay_sound None = s
+  delay_sound (Some byte) = record { its_packets = s.its_packets; its_streams = s.its_streams; its_host = and_both (and_both (and_fst _ _ sending_sound) (and_snd _ _ sending_sound)) channel_sound }
 
-  duplex_sound : (v : Setting) → Leaves (duplex_of v x.host, x.packets, x.streams)
+  duplex_sound : (v : (Option ℕ)) → Leaves (duplex_of v x.host, x.packets, x.streams)
   unfolding sound_host
-  duplex_sound Nothing = s
-  duplex_sound (Value byte) =
+  duplex_sound None = s
+  duplex_sound (Some byte) =
       record {
         its_packets = s.its_packets;
         its_streams = s.its_streams;
@@ -95,25 +92,25 @@ module _ (x : Box) (frame : List ℕ) (s : Sound x) where
       (λ u. record { its_packets = p.1.its_store; its_streams = s.its_streams; its_host = and_both (and_both p.1.its_state (and_snd _ _ sending_sound)) channel_sound })
       (λ u. record { its_packets = s.its_packets; its_streams = q.its_store; its_host = and_both (and_both (and_fst _ _ sending_sound) q.its_state) channel_sound }))
 
-  command_sound : (c : CommandRead) (port : ℕ) → Leaves (by_command c port x.host frame x.packets x.streams)
-  command_sound NoCommand port = s
-  command_sound NoSuch port = s
-  command_sound (Command DataFrame) port = data_sound port
-  command_sound (Command TxDelay) port = delay_sound (setting_in frame)
-  command_sound (Command P) port = s
-  command_sound (Command FullDuplex) port = duplex_sound (setting_in frame)
+  command_sound : (c : (Result KissCommand KissError)) (port : ℕ) → Leaves (by_command c port x.host frame x.packets x.streams)
+  command_sound (Err NoCommand) port = s
+  command_sound (Err NoSuch) port = s
+  command_sound (Ok DataFrame) port = data_sound port
+  command_sound (Ok TxDelay) port = delay_sound (setting_in frame)
+  command_sound (Ok P) port = s
+  command_sound (Ok FullDuplex) port = duplex_sound (setting_in frame)
 
-  port_sound : (p : PortRead) → Leaves (by_port p x.host frame x.packets x.streams)
+  port_sound : (p : (Result ℕ KissError)) → Leaves (by_port p x.host frame x.packets x.streams)
   unfolding obeyed_on
-  port_sound NoPort = s
-  port_sound (Port port) = pick_all Leaves (ltb 2 port) _ _ (λ t. s) (λ t. command_sound (command_read frame) port)
+  port_sound (Err NoPort) = s
+  port_sound (Ok port) = pick_all Leaves (ltb 2 port) _ _ (λ t. s) (λ t. command_sound (command_read frame) port)
 
   obeyed_sound : Leaves (obeyed x.host frame x.packets x.streams)
   unfolding obeyed
   obeyed_sound = port_sound (port_read frame)
 
   -- the frame is obeyed
-  obeys : answered Done (obeyed x.host frame x.packets x.streams) ≡ taken_at x frame
+  obeys : answered (Ok tt) (obeyed x.host frame x.packets x.streams) ≡ taken_at x frame
   obeys = taken x.host frame x.packets x.streams s.its_packets s.its_streams s.its_host
 
 pub sound_stays_sound : SoundStaysSound
@@ -131,19 +128,19 @@ module _ (x : Box) (s : Sound x) (port : ℕ) (n : port ≤ 2) where
   H = x.host
 
   -- what a builder's frame comes to: its command on its port
-  comes_to : (b : Building) → port_of b ≡ port → Accepted b → after x (frame_of b) ≡ left_by (answered Done (by_command (Command (command_of b)) port H (frame_of b) x.packets x.streams))
+  comes_to : (b : Building) → port_of b ≡ port → Accepted b → after x (frame_of b) ≡ left_by (answered (Ok tt) (by_command (Ok (command_of b)) port H (frame_of b) x.packets x.streams))
   comes_to b e ok =
       let r = built_reads_back b ok in
       ap left_by (sym (obeys x (frame_of b) s)
-      ∙ ap (answered Done) (sym (port_as H (frame_of b) x.packets x.streams (Port port) refl (r.its_port ∙ ap Port e))
-      ∙ sym (command_as H (frame_of b) x.packets x.streams port (Command (command_of b)) n refl r.its_command)))
+      ∙ ap (answered (Ok tt)) (sym (port_as H (frame_of b) x.packets x.streams (Ok port) refl (r.its_port ∙ ap Ok e))
+      ∙ sym (command_as H (frame_of b) x.packets x.streams port (Ok (command_of b)) n refl r.its_command)))
 
   -- the byte of a built setting
-  byte_of : (b : Building) (v : ℕ) → Accepted b → content_of b ≡ v ∷ [] → setting_in (frame_of b) ≡ Value v
+  byte_of : (b : Building) (v : ℕ) → Accepted b → content_of b ≡ v ∷ [] → setting_in (frame_of b) ≡ Some v
   unfolding setting_in setting_from pick
   byte_of b v ok e =
       let r = (built_reads_back b ok).its_payload (replicate 1 0) (omega (arith, ap length e)) in
-      ap (λ (p : Decoded × List ℕ). setting_from p.0 p.1) r ∙ rw e
+      ap (λ (p : Result ℕ KissError × List ℕ). setting_from p.0 p.1) r ∙ rw e
 
   accepted_delay : (units : ℕ) → Accepted (set_tx_delay port units)
   unfolding refusal
@@ -156,7 +153,7 @@ module _ (x : Box) (s : Sound x) (port : ℕ) (n : port ≤ 2) where
   delay_taken : (units : ℕ) → after x (frame_of (set_tx_delay port units)) ≡ with_host x (with_delay H units)
   delay_taken units =
       comes_to (set_tx_delay port units) refl (accepted_delay units)
-      ∙ ap (λ (v : Setting). with_host x (delay_set v H)) (byte_of (set_tx_delay port units) units (accepted_delay units) refl)
+      ∙ ap (λ (v : (Option ℕ)). with_host x (delay_set v H)) (byte_of (set_tx_delay port units) units (accepted_delay units) refl)
 
   -- the byte that says on or off
   said : (on : Bool) → (duplex_set H.channel (not (eqb (pick on 1 0) 0))).channel ≡ with_duplex H.channel on
@@ -167,7 +164,7 @@ module _ (x : Box) (s : Sound x) (port : ℕ) (n : port ≤ 2) where
   duplex_taken : (on : Bool) → after x (frame_of (set_full_duplex port on)) ≡ with_host x (with_channel H (with_duplex H.channel on))
   duplex_taken on =
       comes_to (set_full_duplex port on) refl (accepted_duplex on)
-      ∙ ap (λ (v : Setting). with_host x (duplex_of v H)) (byte_of (set_full_duplex port on) (pick on 1 0) (accepted_duplex on) refl)
+      ∙ ap (λ (v : (Option ℕ)). with_host x (duplex_of v H)) (byte_of (set_full_duplex port on) (pick on 1 0) (accepted_duplex on) refl)
       ∙ ap (λ c. with_host x (with_channel H c)) (said on)
 
 pub built_settings_are_taken : BuiltSettingsAreTaken

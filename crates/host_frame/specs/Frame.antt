@@ -1,11 +1,12 @@
 -- What the TNC does with one KISS frame from the host, from document 01's "From the host", "Answer numbers" and "Bounds for 8". Assumes nothing.
-use Rattle.std.specs.Prelude.{ℕ, List, ltb, eqb, length}
+use Rattle.std.specs.Prelude.{ℕ, List, ltb, eqb, length, Result, Err, Ok}
 use Rattle.choice.specs.Pick.{pick}
 use Rattle.kiss_layout.specs.declared.KissCommand.TheVariants.{DataFrame, TxDelay, P, FullDuplex}
-use Rattle.kiss_layout.specs.declared.PortRead.{PortRead}
-use Rattle.kiss_layout.specs.declared.PortRead.TheVariants.{Port, MalformedKissFrame as NoPort}
-use Rattle.kiss_layout.specs.declared.CommandRead.{CommandRead}
-use Rattle.kiss_layout.specs.declared.CommandRead.TheVariants.{Command, MalformedKissFrame as NoCommand, UnsupportedKissCommand as NoSuch}
+use Rattle.kiss_layout.specs.declared.KissCommand.{KissCommand}
+use Rattle.kiss_layout.specs.declared.KissError.{KissError}
+use Rattle.kiss_layout.specs.declared.KissError.TheVariants.{MalformedKissFrame as NoCommand, UnsupportedKissCommand as NoSuch, MalformedKissFrame as NoPort}
+use Rattle.room.specs.declared.LentError.{LentError}
+use Rattle.room.specs.declared.LentError.TheVariants.{OutOfBounds, WrongStore}
 use Rattle.kiss_layout.specs.Read.{port_read, command_read}
 use Rattle.packets.specs.Queue.{STORE as PACKETS}
 use Rattle.streams.specs.Queue.{STORE as STREAMS}
@@ -13,45 +14,43 @@ use Rattle.host_record.specs.declared.Host.{Host}
 use Rattle.host_record.specs.Host.{sound_host}
 use Rattle.host_frame.specs.Setting.{setting_in, delay_set, duplex_of}
 use Rattle.host_frame.specs.Data.{data_taken}
-use Rattle.host_frame.specs.declared.FrameAnswer.{FrameAnswer}
-use Rattle.host_frame.specs.declared.FrameAnswer.TheVariants.{Done, WrongStore, OutOfBounds}
 use Rattle.host_frame.specs.declared.FrameTaken.{FrameTaken}
 
 -- other settings are ignored
-abbrev pub by_command : CommandRead → ℕ → Host → List ℕ → List ℕ → List ℕ → Host × List ℕ × List ℕ
-by_command NoCommand port h frame packets streams = (h, packets, streams)
-by_command NoSuch port h frame packets streams = (h, packets, streams)
-by_command (Command DataFrame) port h frame packets streams = data_taken port h frame packets streams
-by_command (Command TxDelay) port h frame packets streams = (delay_set (setting_in frame) h, packets, streams)
-by_command (Command P) port h frame packets streams = (h, packets, streams)
-by_command (Command FullDuplex) port h frame packets streams = (duplex_of (setting_in frame) h, packets, streams)
+abbrev pub by_command : Result KissCommand KissError → ℕ → Host → List ℕ → List ℕ → List ℕ → Host × List ℕ × List ℕ
+by_command (Err NoCommand) port h frame packets streams = (h, packets, streams)
+by_command (Err NoSuch) port h frame packets streams = (h, packets, streams)
+by_command (Ok DataFrame) port h frame packets streams = data_taken port h frame packets streams
+by_command (Ok TxDelay) port h frame packets streams = (delay_set (setting_in frame) h, packets, streams)
+by_command (Ok P) port h frame packets streams = (h, packets, streams)
+by_command (Ok FullDuplex) port h frame packets streams = (duplex_of (setting_in frame) h, packets, streams)
 
 -- ports 0, 1, 2 only
 unfoldable pub obeyed_on : ℕ → Host → List ℕ → List ℕ → List ℕ → Host × List ℕ × List ℕ
 obeyed_on port h frame packets streams = pick (ltb 2 port) (h, packets, streams) (by_command (command_read frame) port h frame packets streams)
 
-abbrev pub by_port : PortRead → Host → List ℕ → List ℕ → List ℕ → Host × List ℕ × List ℕ
-by_port NoPort h frame packets streams = (h, packets, streams)
-by_port (Port port) h frame packets streams = obeyed_on port h frame packets streams
+abbrev pub by_port : Result ℕ KissError → Host → List ℕ → List ℕ → List ℕ → Host × List ℕ × List ℕ
+by_port (Err NoPort) h frame packets streams = (h, packets, streams)
+by_port (Ok port) h frame packets streams = obeyed_on port h frame packets streams
 
 unfoldable pub obeyed : Host → List ℕ → List ℕ → List ℕ → Host × List ℕ × List ℕ
 obeyed h frame packets streams = by_port (port_read frame) h frame packets streams
 
 -- ---- the call
 
-abbrev pub answered : FrameAnswer → Host × List ℕ × List ℕ → FrameTaken × List ℕ × List ℕ
+abbrev pub answered : Result (Unit {0}) LentError → Host × List ℕ × List ℕ → FrameTaken × List ℕ × List ℕ
 answered a w = (record { answer = a; host = w.0 }, w.1, w.2)
 
 unfoldable pub frame_taken : Host → List ℕ → List ℕ → List ℕ → FrameTaken × List ℕ × List ℕ
 frame_taken h frame packets streams =
     pick (eqb (length packets) PACKETS)
     (pick (eqb (length streams) STREAMS)
-    (pick (sound_host h) (answered Done (obeyed h frame packets streams)) (answered OutOfBounds (h, packets, streams)))
-    (answered WrongStore (h, packets, streams)))
-    (answered WrongStore (h, packets, streams))
+    (pick (sound_host h) (answered (Ok tt) (obeyed h frame packets streams)) (answered (Err OutOfBounds) (h, packets, streams)))
+    (answered (Err WrongStore) (h, packets, streams)))
+    (answered (Err WrongStore) (h, packets, streams))
 
 -- document 01's numbers for the answers
-abbrev pub frame_number : FrameAnswer → ℕ
-frame_number Done = 0
-frame_number WrongStore = 7
-frame_number OutOfBounds = 8
+abbrev pub frame_number : Result (Unit {0}) LentError → ℕ
+frame_number (Ok tt) = 0
+frame_number (Err WrongStore) = 7
+frame_number (Err OutOfBounds) = 8

@@ -1,6 +1,5 @@
 -- What is promised of one frame from the host, from document 01. Each is proved in proofs/Kept.antt. Assumes nothing.
-use Rattle.std.specs.Prelude.{ℕ, ◌≤◌, ◌<◌, Bool, true, ◌≢◌, ◌≡◌, List, length}
-use Rattle.kiss_layout.specs.declared.PortRead.TheVariants.{Port}
+use Rattle.std.specs.Prelude.{ℕ, ◌≤◌, ◌<◌, Bool, true, ◌≢◌, ◌≡◌, List, length, Ok}
 use Rattle.kiss_layout.specs.Read.{port_read}
 use Rattle.kiss_layout.specs.Build.{set_tx_delay, set_full_duplex, frame_of}
 use Rattle.packets.specs.Queue.{STORE as PACKETS}
@@ -9,7 +8,6 @@ use Rattle.channel.specs.Access.{with_duplex}
 use Rattle.host_record.specs.declared.Host.{Host}
 use Rattle.host_record.specs.Host.{new_host, sound_host}
 use Rattle.host_frame.specs.Setting.{with_delay, with_channel}
-use Rattle.host_frame.specs.declared.FrameAnswer.TheVariants.{Done}
 use Rattle.host_frame.specs.declared.FrameTaken.{FrameTaken}
 use Rattle.host_frame.specs.Frame.{frame_taken, frame_number}
 
@@ -43,11 +41,11 @@ RefusedKeepsAll = (x : Box) (frame : List ℕ) → frame_number (taken_at x fram
 
 -- a sound record is never refused, and stays sound, whatever the frame
 abbrev pub SoundStaysSound : Type 0
-SoundStaysSound = (x : Box) (frame : List ℕ) → Sound x → ((taken_at x frame).0.answer ≡ Done) × Sound (after x frame)
+SoundStaysSound = (x : Box) (frame : List ℕ) → Sound x → ((taken_at x frame).0.answer ≡ (Ok tt)) × Sound (after x frame)
 
 -- ports over 2 are ignored: nothing has changed
 abbrev pub OtherPortsIgnored : Type 0
-OtherPortsIgnored = (x : Box) (frame : List ℕ) (port : ℕ) → port_read frame ≡ Port port → 2 < port → after x frame ≡ x
+OtherPortsIgnored = (x : Box) (frame : List ℕ) (port : ℕ) → port_read frame ≡ Ok port → 2 < port → after x frame ≡ x
 
 -- a TxDelay or FullDuplex frame that a builder wrote for port 0, 1 or 2 sets just that, and nothing else has changed
 abbrev pub with_host : Box → Host → Box

@@ -14,7 +14,7 @@ use Rattle.room.specs.Room.{over}
 use Rattle.kiss_layout.specs.Scan.{stretch}
 use Rattle.kiss_calls.specs.declared.WriteAnswer.TheVariants.{Done, Full, WrongStore, OutOfBounds}
 use Rattle.kiss_calls.specs.declared.Written.{Written}
-use Rattle.kiss_calls.specs.declared.NextAnswer.TheVariants.{Frame, Nothing}
+use Rattle.std.specs.Prelude.{Ok, None, Some}
 use Rattle.kiss_calls.specs.declared.NextFrame.{NextFrame}
 use Rattle.kiss_reader.specs.Meaning.{enclosed}
 use Rattle.kiss_reader.specs.Reader.{Reader, new_reader, STORE, flush, front, is_some, next, after_next, refused, takes, after_write}
@@ -70,11 +70,11 @@ module _ (x : Box) (s : Sound x) where
   next-reads = ap reading next_box ∙ box_reads (after_next (reading x)) x.store
 
 -- what the answer says of what is held
-pub none-answered : (o : Option (List ℕ)) → next_answer o ≡ Nothing → o ≡ none
+pub none-answered : (o : Option (List ℕ)) → next_answer o ≡ (Ok None) → o ≡ none
 none-answered none e = refl
 none-answered (some f) e = let z : ◌≡◌ {A = ℕ} 0 1 = cc in absurd (omega arith)
 
-pub some-answered : (o : Option (List ℕ)) (n : ℕ) → next_answer o ≡ Frame n → (f : List ℕ) × (o ≡ some f)
+pub some-answered : (o : Option (List ℕ)) (n : ℕ) → next_answer o ≡ Ok (Some n) → (f : List ℕ) × (o ≡ some f)
 some-answered none n e = let z : ◌≡◌ {A = ℕ} 0 1 = cc in absurd (omega arith)
 some-answered (some f) n e = (f, refl)
 

@@ -16,7 +16,8 @@ use Rattle.kiss_layout.specs.Escape.{FEND}
 use Rattle.kiss_layout.specs.Scan.{stretch}
 use Rattle.kiss_calls.specs.declared.KissBuffer.{KissBuffer}
 use Rattle.kiss_calls.specs.declared.WriteAnswer.TheVariants.{Done, Full, WrongStore, OutOfBounds}
-use Rattle.kiss_calls.specs.declared.NextAnswer.TheVariants.{Frame, Nothing, WrongStore as NoStore, OutOfBounds as NoState}
+use Rattle.std.specs.Prelude.{Err, Ok, None, Some}
+use Rattle.room.specs.declared.LentError.TheVariants.{WrongStore as NoStore, OutOfBounds as NoState}
 use Rattle.kiss_reader.specs.Meaning.{enclosed}
 use Rattle.kiss_reader.specs.Reader.{Reader, STORE, settle, flush, front, is_some, next, after_next, is_full, refused, kept_back, takes, after_write}
 use Rattle.kiss_calls.specs.Calls.{reader_of, sound_buffer, not_written, writes, written, next_answer, not_sought, found, next_frame, frame_in}
@@ -79,11 +80,11 @@ module _ (b : KissBuffer) (offered store : List ℕ) where
   written_sound l e = rw (eq-eqb (length store) STORE l, e)
 
 module _ (b : KissBuffer) (store : List ℕ) where
-  pub next_wrong : (length store ≡ STORE → ⊥) → not_sought NoStore b store ≡ next_frame b store
+  pub next_wrong : (length store ≡ STORE → ⊥) → not_sought (Err NoStore) b store ≡ next_frame b store
   unfolding next_frame pick
   next_wrong f = rw (ne_eqb (length store) STORE f)
 
-  pub next_unsound : length store ≡ STORE → sound_buffer b store ≡ false → not_sought NoState b store ≡ next_frame b store
+  pub next_unsound : length store ≡ STORE → sound_buffer b store ≡ false → not_sought (Err NoState) b store ≡ next_frame b store
   unfolding next_frame pick
   next_unsound l e = rw (eq-eqb (length store) STORE l, e)
 
@@ -137,19 +138,19 @@ module _ (r : Reader) (store held : List ℕ) (e : settle (flush r) ≡ held) wh
   unfolding found next after_next
   as_found o q = rw (e, q)
 
-  pub found_none : length (or_empty (front held)) ≡ 0 → (record { answer = Nothing; buffer = record { filled = length held; taken = false } }, over held store) ≡ found r store
+  pub found_none : length (or_empty (front held)) ≡ 0 → (record { answer = Ok None; buffer = record { filled = length held; taken = false } }, over held store) ≡ found r store
   unfolding front
   found_none z = by (stretch (drop 1 held)) refl z
     where
       by : (o : Option (List ℕ)) → stretch (drop 1 held) ≡ o → length (or_empty (map enclosed o)) ≡ 0
-          → (record { answer = Nothing; buffer = record { filled = length held; taken = false } }, over held store) ≡ found r store
+          → (record { answer = Ok None; buffer = record { filled = length held; taken = false } }, over held store) ≡ found r store
       by none q z = as_found none (ap (map enclosed) q)
       by (some s) q z = absurd (omega arith)
 
-  pub found_some : (n : ℕ) → n ≡ length (or_empty (front held)) → (n ≡ 0 → ⊥) → (record { answer = Frame n; buffer = record { filled = length held; taken = true } }, over held store) ≡ found r store
+  pub found_some : (n : ℕ) → n ≡ length (or_empty (front held)) → (n ≡ 0 → ⊥) → (record { answer = Ok (Some n); buffer = record { filled = length held; taken = true } }, over held store) ≡ found r store
   found_some n p f = by (front held) refl p
     where
-      by : (o : Option (List ℕ)) → front held ≡ o → n ≡ length (or_empty o) → (record { answer = Frame n; buffer = record { filled = length held; taken = true } }, over held store) ≡ found r store
+      by : (o : Option (List ℕ)) → front held ≡ o → n ≡ length (or_empty o) → (record { answer = Ok (Some n); buffer = record { filled = length held; taken = true } }, over held store) ≡ found r store
       by none q p = absurd (f p)
       by (some g) q p = rw p (as_found (some g) q)
 

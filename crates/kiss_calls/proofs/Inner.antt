@@ -9,7 +9,8 @@ use lib.Dec.{ltb}
 use lib.ListN.{length, take, drop, get_or, length-append, length-drop, length-take}
 use lib.Seq.{sets, sets-eq, take-nil, drop-drop}
 use borrow.Author.Tests.{ltb-true, ltb-false}
-use Rattle.room.specs.declared.Copied.{Copied}
+use Rattle.std.specs.Prelude.{Result}
+use Rattle.room.specs.declared.NoRoom.{NoRoom}
 use Rattle.room.specs.Room.{over, shifted}
 use Rattle.room.proofs.Copies.{shifted_in}
 use Rattle.kiss_layout.specs.Escape.{FEND}
@@ -48,7 +49,7 @@ settled_within from filled n store h k e =
     omega (arith, settle_within (take (filled - from) (drop from store)), length-take (filled - from) (drop from store), length-drop from store)
 
 -- what `shift` leaves of them, and how many they are
-pub compacted-by : (from filled n : ℕ) (store : List ℕ) {r : Copied} {d : List ℕ} → from ≤ filled → filled ≤ length store
+pub compacted-by : (from filled n : ℕ) (store : List ℕ) {r : (Result (Unit {0}) NoRoom)} {d : List ℕ} → from ≤ filled → filled ≤ length store
     → n ≡ settle_at (take (filled - from) (drop from store)) → (r, d) ≡ shifted store (from + n) filled → (filled - (from + n), d) ≡ compacted from filled store
 unfolding compacted
 compacted-by from filled n store h k e q =

@@ -12,7 +12,8 @@ use Rattle.kiss_layout.specs.Build.{Building}
 use Rattle.kiss_layout.proofs.Kept.{built_reads_back}
 use Rattle.kiss_calls.specs.declared.WriteAnswer.TheVariants.{Done, Full, WrongStore, OutOfBounds}
 use Rattle.kiss_calls.specs.declared.Written.{Written}
-use Rattle.kiss_calls.specs.declared.NextAnswer.TheVariants.{WrongStore as WrongStore', OutOfBounds as OutOfBounds'}
+use Rattle.std.specs.Prelude.{Err}
+use Rattle.room.specs.declared.LentError.TheVariants.{WrongStore as WrongStore', OutOfBounds as OutOfBounds'}
 use Rattle.kiss_calls.specs.declared.NextFrame.{NextFrame}
 use Rattle.kiss_reader.specs.Reader.{STORE, next, refused}
 use Rattle.kiss_calls.specs.Calls.{sound_buffer, not_written, writes, written, next_answer, not_sought, found, next_frame, write_number, next_number}
@@ -48,7 +49,7 @@ unfolding next_frame found pick
 next-keeps x = by (eqb (length x.store) STORE) (sound_buffer x.buffer x.store) (next (reading x)) _ refl
   where
     chosen : Bool → Bool → NextFrame × List ℕ → NextFrame × List ℕ
-    chosen a b done = pick a (pick b done (not_sought OutOfBounds' x.buffer x.store)) (not_sought WrongStore' x.buffer x.store)
+    chosen a b done = pick a (pick b done (not_sought (Err OutOfBounds') x.buffer x.store)) (not_sought (Err WrongStore') x.buffer x.store)
 
     number-0 : (o : Option (List ℕ)) → next_number (next_answer o) ≡ 0
     number-0 none = refl

@@ -1,6 +1,6 @@
 -- The reader's calls on its record and its store of 1,713 bytes: answer, record and every byte of the store after each, from document 01's "Answer numbers"
 -- and "Bounds for 8". Assumes nothing.
-use Rattle.std.specs.Prelude.{ℕ, Bool, true, List, [], leb, eqb, length, take}
+use Rattle.std.specs.Prelude.{ℕ, Bool, true, List, [], leb, eqb, length, take, Result, Option, Ok, None, Some, Err}
 use Rattle.std.proofs.Math.Option.{Option, none, some}
 use Rattle.choice.specs.Pick.{pick, and}
 use Rattle.room.specs.Room.{over}
@@ -8,8 +8,8 @@ use Rattle.kiss_calls.specs.declared.KissBuffer.{KissBuffer}
 use Rattle.kiss_calls.specs.declared.WriteAnswer.{WriteAnswer}
 use Rattle.kiss_calls.specs.declared.WriteAnswer.TheVariants.{Done, Full, WrongStore, OutOfBounds}
 use Rattle.kiss_calls.specs.declared.Written.{Written}
-use Rattle.kiss_calls.specs.declared.NextAnswer.{NextAnswer}
-use Rattle.kiss_calls.specs.declared.NextAnswer.TheVariants.{Frame, Nothing, WrongStore as NoStore, OutOfBounds as NoState}
+use Rattle.room.specs.declared.LentError.{LentError}
+use Rattle.room.specs.declared.LentError.TheVariants.{OutOfBounds as NoState, WrongStore as NoStore}
 use Rattle.kiss_calls.specs.declared.NextFrame.{NextFrame}
 use Rattle.kiss_reader.specs.Reader.{Reader, STORE, front, next, after_next, refused, takes, after_write}
 use Rattle.kiss_reader.specs.Front.{stands_first, or_empty}
@@ -43,11 +43,11 @@ written b offered store =
 
 -- ---- next_frame
 
-abbrev pub next_answer : Option (List ℕ) → NextAnswer
-next_answer none = Nothing
-next_answer (some f) = Frame (length f)
+abbrev pub next_answer : Option (List ℕ) → Result (Option ℕ) LentError
+next_answer none = Ok None
+next_answer (some f) = Ok (Some (length f))
 
-abbrev pub not_sought : NextAnswer → KissBuffer → List ℕ → NextFrame × List ℕ
+abbrev pub not_sought : Result (Option ℕ) LentError → KissBuffer → List ℕ → NextFrame × List ℕ
 not_sought answer b store = (record { answer = answer; buffer = b }, store)
 
 unfoldable pub found : Reader → List ℕ → NextFrame × List ℕ
@@ -56,8 +56,8 @@ found r store = (record { answer = next_answer (next r); buffer = buffer_of (aft
 unfoldable pub next_frame : KissBuffer → List ℕ → NextFrame × List ℕ
 next_frame b store =
     pick (eqb (length store) STORE)
-    (pick (sound_buffer b store) (found (reader_of b store) store) (not_sought NoState b store))
-    (not_sought NoStore b store)
+    (pick (sound_buffer b store) (found (reader_of b store) store) (not_sought (Err NoState) b store))
+    (not_sought (Err NoStore) b store)
 
 -- ---- frame
 
@@ -74,8 +74,8 @@ write_number Full = 5
 write_number WrongStore = 7
 write_number OutOfBounds = 8
 
-abbrev pub next_number : NextAnswer → ℕ
-next_number (Frame n) = 0
-next_number Nothing = 0
-next_number NoStore = 7
-next_number NoState = 8
+abbrev pub next_number : Result (Option ℕ) LentError → ℕ
+next_number (Ok (Some n)) = 0
+next_number (Ok None) = 0
+next_number (Err NoStore) = 7
+next_number (Err NoState) = 8

@@ -1,11 +1,10 @@
 -- What is promised of the reader over any run of its calls, and demand 3, from document 01. Each is proved in proofs/Kept.antt. Assumes nothing.
-use Rattle.std.specs.Prelude.{ℕ, ◌≤◌, true, ◌≢◌, ◌≡◌, List, [], ◌∷◌, ◌++◌, map, length, take, drop}
+use Rattle.std.specs.Prelude.{ℕ, ◌≤◌, true, ◌≢◌, ◌≡◌, List, [], ◌∷◌, ◌++◌, map, length, take, drop, Ok, None, Some}
 use Rattle.kiss_layout.specs.Escape.{FEND}
 use Rattle.kiss_layout.specs.Build.{Building, port_of, command_of, content_of, frame_of}
 use Rattle.kiss_layout.specs.Promises.{ReadsAs}
 use Rattle.kiss_calls.specs.declared.KissBuffer.{KissBuffer}
 use Rattle.kiss_calls.specs.declared.WriteAnswer.TheVariants.{Done}
-use Rattle.kiss_calls.specs.declared.NextAnswer.TheVariants.{Frame, Nothing}
 use Rattle.kiss_reader.specs.Meaning.{frames_of}
 use Rattle.kiss_reader.specs.Reader.{new_reader, STORE}
 use Rattle.kiss_reader.specs.Promises.{joined, Folds, AllAccepted}
@@ -29,8 +28,8 @@ after_next_frame x = record { buffer = (next_frame x.buffer x.store).0.buffer; s
 
 -- frames are taken until none is left: from x, the frames fs, which leaves y
 pub data Drain : Box → List (List ℕ) → Box → Type 0 where
-  none_left : {x : Box} → (next_frame x.buffer x.store).0.answer ≡ Nothing → Drain x [] (after_next_frame x)
-  handed_out : {x y : Box} {n : ℕ} {fs : List (List ℕ)} → (next_frame x.buffer x.store).0.answer ≡ Frame n → Drain (after_next_frame x) fs y
+  none_left : {x : Box} → (next_frame x.buffer x.store).0.answer ≡ (Ok None) → Drain x [] (after_next_frame x)
+  handed_out : {x y : Box} {n : ℕ} {fs : List (List ℕ)} → (next_frame x.buffer x.store).0.answer ≡ Ok (Some n) → Drain (after_next_frame x) fs y
       → Drain x (frame_in (after_next_frame x).buffer (after_next_frame x).store ∷ fs) y
 
 -- a run over the input w that hands out the frames out: a write is offered the next n bytes of what is not yet taken, for any n; then frames are taken until

@@ -10,9 +10,9 @@ use lib.ListN.{length, drop, get_or, length-append, drop_of_length-le}
 use lib.Seq.{drop-cons}
 use borrow.Author.Tests.{eq-eqb, ne_eqb, le-leb, lt-leb}
 use Rattle.choice.specs.Pick.{pick, pick_either, pick_neither}
-use Rattle.room.specs.Room.{over}
-use Rattle.kiss_layout.specs.declared.Escaped.{Escaped}
-use Rattle.kiss_layout.specs.declared.Escaped.TheVariants.{Wrote, NoRoom}
+use Rattle.room.specs.Room.{over, no_room}
+use Rattle.std.specs.Prelude.{Ok, Result, ℕ, Err}
+use Rattle.room.specs.declared.NoRoom.{NoRoom}
 use Rattle.kiss_layout.specs.Escape.{FEND, FESC, TFEND, TFESC, esc_byte, esc, escaped}
 use Rattle.kiss_layout.proofs.Bytes.{Kind, fend, fesc, other, kind}
 
@@ -76,14 +76,14 @@ esc-done s i h = rw (drop_of_length-le s h)
 
 -- ---- the answer of `escape`
 
-pub escaped-yes : (s d : List ℕ) → length (esc s) ≤ length d → escaped s d ≡ (Wrote (length (esc s)), over (esc s) d)
+pub escaped-yes : (s d : List ℕ) → length (esc s) ≤ length d → escaped s d ≡ (Ok (length (esc s)), over (esc s) d)
 unfolding escaped pick
 escaped-yes s d h = rw (le-leb (length (esc s)) (length d) h)
 
 -- what `escape` left in a room that had the place
-pub escaped_in : (s d : List ℕ) {r : Escaped} {e : List ℕ} → (r, e) ≡ escaped s d → length (esc s) ≤ length d → e ≡ over (esc s) d
-escaped_in s d h fit = ap (λ (p : Escaped × List ℕ). p.1) (h ∙ escaped-yes s d fit)
+pub escaped_in : (s d : List ℕ) {r : (Result ℕ NoRoom)} {e : List ℕ} → (r, e) ≡ escaped s d → length (esc s) ≤ length d → e ≡ over (esc s) d
+escaped_in s d h fit = ap (λ (p : Result ℕ NoRoom × List ℕ). p.1) (h ∙ escaped-yes s d fit)
 
-pub escaped_no : (s d : List ℕ) → length d < length (esc s) → escaped s d ≡ (NoRoom, d)
+pub escaped_no : (s d : List ℕ) → length d < length (esc s) → escaped s d ≡ ((Err no_room), d)
 unfolding escaped pick
 escaped_no s d h = rw (lt-leb (length (esc s)) (length d) h)

@@ -9,7 +9,8 @@ use borrow.Author.Tests.{le-leb, lt-leb}
 use Rattle.choice.specs.Pick.{pick}
 use Rattle.room.specs.Room.{over}
 use Rattle.room.proofs.Runs.{put_front, sets_append}
-use Rattle.kiss_layout.specs.declared.Built.TheVariants.{Frame, NoRoom}
+use Rattle.std.specs.Prelude.{Ok, Err}
+use Rattle.kiss_layout.specs.declared.BuildError.TheVariants.{NoRoom}
 use Rattle.kiss_layout.specs.Escape.{FEND, esc}
 use Rattle.kiss_layout.specs.Frame.{frame, put_frame}
 use Rattle.kiss_layout.proofs.Escapes.{esc_append}
@@ -25,11 +26,11 @@ frame_length_two h s t = omega (arith, frame-length h (s ++ t), ap length (esc_a
 
 -- ---- put into a room
 
-pub put_yes : (f d : List ℕ) → length f ≤ length d → put_frame f d ≡ (Frame (length f), over f d)
+pub put_yes : (f d : List ℕ) → length f ≤ length d → put_frame f d ≡ (Ok (length f), over f d)
 unfolding put_frame pick
 put_yes f d h = rw (le-leb (length f) (length d) h)
 
-pub put_no : (f d : List ℕ) → length d < length f → put_frame f d ≡ (NoRoom, d)
+pub put_no : (f d : List ℕ) → length d < length f → put_frame f d ≡ ((Err NoRoom), d)
 unfolding put_frame pick
 put_no f d h = rw (lt-leb (length f) (length d) h)
 

@@ -8,7 +8,7 @@ use lib.ListN.{length}
 use borrow.Author.Tests.{ne_eqb}
 use Rattle.choice.specs.Pick.{pick}
 use Rattle.room.specs.Room.{over}
-use Rattle.kiss_layout.specs.declared.Decoded.TheVariants.{Payload}
+use Rattle.std.specs.Prelude.{Ok}
 use Rattle.kiss_layout.specs.Escape.{FEND, esc}
 use Rattle.kiss_layout.specs.Scan.{after_fends}
 use Rattle.kiss_layout.specs.Frame.{frame}
@@ -23,9 +23,9 @@ module _ (h : ℕ) (content : List ℕ) (f : h ≢ FEND) where
   unfolding frame after_fends pick
   frame_header = rw (ne_eqb h FEND f)
 
-  pub frame_payload : (room : List ℕ) → length content ≤ length room → decoded (frame h content) room ≡ (Payload (length content), over content room)
+  pub frame_payload : (room : List ℕ) → length content ≤ length room → decoded (frame h content) room ≡ (Ok (length content), over content room)
   unfolding decoded
   frame_payload room fit =
       ap (λ (l : List ℕ). payload_at l room) frame_header
       ∙ ap (λ (o : Option (List ℕ)). content_in o room) (stretch-closed (esc content) [] (stretch_clear (esc content) (escaped_has_no_fend content)))
-      ∙ ap (λ (x : ℕ × List ℕ). (Payload x.0, x.1)) (escape_round_trip content room fit)
+      ∙ ap (λ (x : ℕ × List ℕ). (Ok x.0, x.1)) (escape_round_trip content room fit)

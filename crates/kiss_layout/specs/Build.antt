@@ -1,12 +1,12 @@
 -- The calls of the frame builders: what each asks for and which arguments it refuses, from document 01's "Answer numbers" and m17core's kiss.rs. Assumes nothing.
-use Rattle.std.specs.Prelude.{ℕ, ◌+◌, ◌*◌, Bool, List, [], ◌∷◌, ◌++◌, ltb, eqb, length}
+use Rattle.std.specs.Prelude.{ℕ, ◌+◌, ◌*◌, Bool, List, [], ◌∷◌, ◌++◌, ltb, eqb, length, Result, Err}
 use Rattle.std.proofs.Math.Option.{Option, none, some}
 use Rattle.choice.specs.Pick.{pick}
 use Rattle.kiss_layout.specs.declared.KissCommand.{KissCommand}
 use Rattle.kiss_layout.specs.declared.KissCommand.TheVariants.{DataFrame, TxDelay, P, FullDuplex}
 use Rattle.kiss_layout.specs.Read.{command_number}
-use Rattle.kiss_layout.specs.declared.Built.{Built}
-use Rattle.kiss_layout.specs.declared.Built.TheVariants.{PayloadTooBig, LsfWrongSize, OutOfRange}
+use Rattle.kiss_layout.specs.declared.BuildError.{BuildError}
+use Rattle.kiss_layout.specs.declared.BuildError.TheVariants.{OutOfRange, PayloadTooBig, LsfWrongSize}
 use Rattle.kiss_layout.specs.Frame.{frame, put_frame}
 use Rattle.protocol.specs.declared.StreamFrame.{StreamFrame}
 use Rattle.kiss_layout.specs.Stream.{stream_content}
@@ -49,16 +49,16 @@ content_of (persistence port units) = units ∷ []
 content_of (set_full_duplex port on) = pick on 1 0 ∷ []
 
 -- of a port over 15
-abbrev pub port_refusal : ℕ → Option Built
-port_refusal port = pick (ltb 15 port) (some OutOfRange) none
+abbrev pub port_refusal : ℕ → Option (Result ℕ BuildError)
+port_refusal port = pick (ltb 15 port) (some (Err OutOfRange)) none
 
 -- the answer to arguments that are refused: an LSF that is not 30 bytes, then a basic payload over 822 or a packet over 825, then a LICH index over 5, a frame
 -- number over 32,767 or a port over 15
-unfoldable pub refusal : Building → Option Built
-refusal (basic_packet payload) = pick (ltb 822 (length payload)) (some PayloadTooBig) none
-refusal (full_packet lsf packet) = pick (eqb (length lsf) 30) (pick (ltb 825 (length packet)) (some PayloadTooBig) none) (some LsfWrongSize)
-refusal (stream_setup lsf) = pick (eqb (length lsf) 30) none (some LsfWrongSize)
-refusal (stream_data frame) = pick (ltb 5 frame.lich_idx) (some OutOfRange) (pick (ltb 32767 frame.frame_number) (some OutOfRange) none)
+unfoldable pub refusal : Building → Option (Result ℕ BuildError)
+refusal (basic_packet payload) = pick (ltb 822 (length payload)) (some (Err PayloadTooBig)) none
+refusal (full_packet lsf packet) = pick (eqb (length lsf) 30) (pick (ltb 825 (length packet)) (some (Err PayloadTooBig)) none) (some (Err LsfWrongSize))
+refusal (stream_setup lsf) = pick (eqb (length lsf) 30) none (some (Err LsfWrongSize))
+refusal (stream_data frame) = pick (ltb 5 frame.lich_idx) (some (Err OutOfRange)) (pick (ltb 32767 frame.frame_number) (some (Err OutOfRange)) none)
 refusal (set_tx_delay port units) = port_refusal port
 refusal (persistence port units) = port_refusal port
 refusal (set_full_duplex port on) = port_refusal port
@@ -71,10 +71,10 @@ abbrev pub frame_of : Building → List ℕ
 frame_of b = frame (header_of (port_of b) (command_of b)) (content_of b)
 
 -- with a refusal the room stays
-abbrev pub unless : Option Built → List ℕ → List ℕ → Built × List ℕ
+abbrev pub unless : Option (Result ℕ BuildError) → List ℕ → List ℕ → Result ℕ BuildError × List ℕ
 unless (some refused) f d = (refused, d)
 unless none f d = put_frame f d
 
 -- the answer of a builder, and the room after it
-unfoldable pub built : Building → List ℕ → Built × List ℕ
+unfoldable pub built : Building → List ℕ → Result ℕ BuildError × List ℕ
 built b d = unless (refusal b) (frame_of b) d

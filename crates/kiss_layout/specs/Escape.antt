@@ -1,9 +1,8 @@
 -- The special bytes of the KISS paper (Chepponis and Karn, "The KISS TNC") and the escaping of bytes. Assumes nothing.
-use Rattle.std.specs.Prelude.{ℕ, List, [], ◌∷◌, ◌++◌, eqb, length}
+use Rattle.std.specs.Prelude.{ℕ, List, [], ◌∷◌, ◌++◌, eqb, length, Result, Ok, Err}
 use Rattle.choice.specs.Pick.{pick}
-use Rattle.room.specs.Room.{fits, over}
-use Rattle.kiss_layout.specs.declared.Escaped.{Escaped}
-use Rattle.kiss_layout.specs.declared.Escaped.TheVariants.{Wrote, NoRoom}
+use Rattle.room.specs.Room.{fits, over, no_room}
+use Rattle.room.specs.declared.NoRoom.{NoRoom}
 
 abbrev pub FEND : ℕ
 FEND = 0xC0
@@ -27,10 +26,10 @@ esc [] = []
 esc (b ∷ s) = esc_byte b ++ esc s
 
 -- the answer of `escape`, and the room after it
-unfoldable pub escaped : List ℕ → List ℕ → Escaped × List ℕ
-escaped s d = pick (fits (esc s) d) (Wrote (length (esc s)), over (esc s) d) (NoRoom, d)
+unfoldable pub escaped : List ℕ → List ℕ → Result ℕ NoRoom × List ℕ
+escaped s d = pick (fits (esc s) d) (Ok (length (esc s)), over (esc s) d) ((Err no_room), d)
 
 -- document 01's number of an answer
-abbrev pub escaped_number : Escaped → ℕ
-escaped_number (Wrote n) = 0
-escaped_number NoRoom = 7
+abbrev pub escaped_number : Result ℕ NoRoom → ℕ
+escaped_number (Ok n) = 0
+escaped_number (Err no_room) = 7

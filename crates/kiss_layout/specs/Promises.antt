@@ -1,15 +1,12 @@
 -- What is promised of escaping, of the builders and of what is read from their frames, from the KISS paper and document 01. Those of escaping are proved in
 -- proofs/Escaping.antt, the others in proofs/Kept.antt. Assumes nothing.
-use Rattle.std.specs.Prelude.{ℕ, ◌*◌, ◌≤◌, ◌<◌, ◌≢◌, ◌≡◌, List, length, drop, get_or}
+use Rattle.std.specs.Prelude.{ℕ, ◌*◌, ◌≤◌, ◌<◌, ◌≢◌, ◌≡◌, List, length, drop, get_or, Ok, Err}
 use Rattle.std.proofs.Math.Option.{none, some}
 use Rattle.room.specs.Room.{over}
 use Rattle.crc.specs.Crc.{crc_of}
 use Rattle.protocol.specs.declared.StreamFrame.{StreamFrame}
 use Rattle.kiss_layout.specs.declared.KissCommand.{KissCommand}
-use Rattle.kiss_layout.specs.declared.Built.TheVariants.{Frame, LsfWrongSize}
-use Rattle.kiss_layout.specs.declared.PortRead.TheVariants.{Port}
-use Rattle.kiss_layout.specs.declared.CommandRead.TheVariants.{Command}
-use Rattle.kiss_layout.specs.declared.Decoded.TheVariants.{Payload}
+use Rattle.kiss_layout.specs.declared.BuildError.TheVariants.{LsfWrongSize}
 use Rattle.kiss_layout.specs.Escape.{FEND, esc}
 use Rattle.kiss_layout.specs.Unescape.{unescaped}
 use Rattle.kiss_layout.specs.Frame.{built_number}
@@ -54,7 +51,7 @@ pub record Accepted (b : Building) : Type 0 where
 
 -- accepted arguments and room for the frame: the frame stands at the room's start, and what lies beyond stays
 abbrev pub AcceptedIsBuilt : Type 0
-AcceptedIsBuilt = (b : Building) (room : List ℕ) → Accepted b → length (frame_of b) ≤ length room → built b room ≡ (Frame (length (frame_of b)), over (frame_of b) room)
+AcceptedIsBuilt = (b : Building) (room : List ℕ) → Accepted b → length (frame_of b) ≤ length room → built b room ≡ (Ok (length (frame_of b)), over (frame_of b) room)
 
 -- no frame that is built is longer than 1,713 bytes
 abbrev pub BuiltAtMost1713 : Type 0
@@ -62,7 +59,7 @@ BuiltAtMost1713 = (b : Building) → Accepted b → length (frame_of b) ≤ 1713
 
 -- an LSF that is not 30 bytes is answered 2, whatever the packet is
 abbrev pub LsfLengthFirst : Type 0
-LsfLengthFirst = (lsf packet : List ℕ) → length lsf ≢ 30 → refusal (full_packet lsf packet) ≡ some LsfWrongSize
+LsfLengthFirst = (lsf packet : List ℕ) → length lsf ≢ 30 → refusal (full_packet lsf packet) ≡ some (Err LsfWrongSize)
 
 -- with any answer but 0 the room is as it was
 abbrev pub RefusedKeepsRoom : Type 0
@@ -71,9 +68,9 @@ RefusedKeepsRoom = (b : Building) (room : List ℕ) → built_number (built b ro
 -- ---- a frame that is read gives back what it was built from
 
 pub record ReadsAs (f : List ℕ) (port : ℕ) (command : KissCommand) (content : List ℕ) : Type 0 where
-  pub its_port : port_read f ≡ Port port
-  pub its_command : command_read f ≡ Command command
-  pub its_payload : (room : List ℕ) → length content ≤ length room → decoded f room ≡ (Payload (length content), over content room)
+  pub its_port : port_read f ≡ Ok port
+  pub its_command : command_read f ≡ Ok command
+  pub its_payload : (room : List ℕ) → length content ≤ length room → decoded f room ≡ (Ok (length content), over content room)
 
 abbrev pub BuiltReadsBack : Type 0
 BuiltReadsBack = (b : Building) → Accepted b → ReadsAs (frame_of b) (port_of b) (command_of b) (content_of b)

@@ -1,15 +1,11 @@
 -- Port, command and payload of a frame, from document 01's header, its answers 3 and 4 and "ours sees only the frame's bytes". Assumes nothing.
-use Rattle.std.specs.Prelude.{ℕ, ◌/◌, ◌%◌, List, [], ◌∷◌, eqb}
+use Rattle.std.specs.Prelude.{ℕ, ◌/◌, ◌%◌, List, [], ◌∷◌, eqb, Result, Err, Ok}
 use Rattle.std.proofs.Math.Option.{Option, none, some}
 use Rattle.choice.specs.Pick.{pick}
 use Rattle.kiss_layout.specs.declared.KissCommand.{KissCommand}
 use Rattle.kiss_layout.specs.declared.KissCommand.TheVariants.{DataFrame, TxDelay, P, FullDuplex}
-use Rattle.kiss_layout.specs.declared.PortRead.{PortRead}
-use Rattle.kiss_layout.specs.declared.PortRead.TheVariants.{Port, MalformedKissFrame as NoPort}
-use Rattle.kiss_layout.specs.declared.CommandRead.{CommandRead}
-use Rattle.kiss_layout.specs.declared.CommandRead.TheVariants.{Command, MalformedKissFrame as NoCommand, UnsupportedKissCommand}
-use Rattle.kiss_layout.specs.declared.Decoded.{Decoded}
-use Rattle.kiss_layout.specs.declared.Decoded.TheVariants.{Payload, MalformedKissFrame as NoPayload}
+use Rattle.kiss_layout.specs.declared.KissError.{KissError}
+use Rattle.kiss_layout.specs.declared.KissError.TheVariants.{MalformedKissFrame as NoPort, UnsupportedKissCommand, MalformedKissFrame as NoCommand, MalformedKissFrame as NoPayload}
 use Rattle.kiss_layout.specs.Unescape.{unescaped}
 use Rattle.kiss_layout.specs.Scan.{stretch, after_fends}
 
@@ -21,52 +17,52 @@ command_number P = 2
 command_number FullDuplex = 5
 
 -- the header is the first byte that is not FEND; its high half is the port
-abbrev pub port_at : List ℕ → PortRead
-port_at [] = NoPort
-port_at (header ∷ s) = Port (header / 16)
+abbrev pub port_at : List ℕ → Result ℕ KissError
+port_at [] = Err NoPort
+port_at (header ∷ s) = Ok (header / 16)
 
-unfoldable pub port_read : List ℕ → PortRead
+unfoldable pub port_read : List ℕ → Result ℕ KissError
 port_read f = port_at (after_fends f)
 
 -- the header's low half is the command
-unfoldable pub command_for : ℕ → CommandRead
+unfoldable pub command_for : ℕ → Result KissCommand KissError
 command_for n =
-    pick (eqb n 0) (Command DataFrame)
-    (pick (eqb n 1) (Command TxDelay)
-    (pick (eqb n 2) (Command P)
-    (pick (eqb n 5) (Command FullDuplex) UnsupportedKissCommand)))
+    pick (eqb n 0) (Ok DataFrame)
+    (pick (eqb n 1) (Ok TxDelay)
+    (pick (eqb n 2) (Ok P)
+    (pick (eqb n 5) (Ok FullDuplex) (Err UnsupportedKissCommand))))
 
-abbrev pub command_at : List ℕ → CommandRead
-command_at [] = NoCommand
+abbrev pub command_at : List ℕ → Result KissCommand KissError
+command_at [] = Err NoCommand
 command_at (header ∷ s) = command_for (header % 16)
 
-unfoldable pub command_read : List ℕ → CommandRead
+unfoldable pub command_read : List ℕ → Result KissCommand KissError
 command_read f = command_at (after_fends f)
 
 -- the content is what stands between the header and the next FEND, found before anything is unescaped
-abbrev pub content_in : Option (List ℕ) → List ℕ → Decoded × List ℕ
-content_in none d = (NoPayload, d)
-content_in (some content) d = (Payload (unescaped content d).0, (unescaped content d).1)
+abbrev pub content_in : Option (List ℕ) → List ℕ → Result ℕ KissError × List ℕ
+content_in none d = ((Err NoPayload), d)
+content_in (some content) d = (Ok (unescaped content d).0, (unescaped content d).1)
 
-abbrev pub payload_at : List ℕ → List ℕ → Decoded × List ℕ
-payload_at [] d = (NoPayload, d)
+abbrev pub payload_at : List ℕ → List ℕ → Result ℕ KissError × List ℕ
+payload_at [] d = ((Err NoPayload), d)
 payload_at (header ∷ s) d = content_in (stretch s) d
 
 -- the answer of `decode_payload`, and the room after it
-unfoldable pub decoded : List ℕ → List ℕ → Decoded × List ℕ
+unfoldable pub decoded : List ℕ → List ℕ → Result ℕ KissError × List ℕ
 decoded f d = payload_at (after_fends f) d
 
 -- ---- document 01's numbers for the answers
 
-abbrev pub port_number : PortRead → ℕ
-port_number (Port n) = 0
-port_number NoPort = 3
+abbrev pub port_number : Result ℕ KissError → ℕ
+port_number (Ok n) = 0
+port_number (Err NoPort) = 3
 
-abbrev pub command_read_number : CommandRead → ℕ
-command_read_number (Command c) = 0
-command_read_number NoCommand = 3
-command_read_number UnsupportedKissCommand = 4
+abbrev pub command_read_number : Result KissCommand KissError → ℕ
+command_read_number (Ok c) = 0
+command_read_number (Err NoCommand) = 3
+command_read_number (Err UnsupportedKissCommand) = 4
 
-abbrev pub decoded_number : Decoded → ℕ
-decoded_number (Payload n) = 0
-decoded_number NoPayload = 3
+abbrev pub decoded_number : Result ℕ KissError → ℕ
+decoded_number (Ok n) = 0
+decoded_number (Err NoPayload) = 3

@@ -6,7 +6,8 @@ use Prim.Native.Nat.{ℕ, ◌+◌, ◌-◌, ◌≤◌, ◌<◌}
 use native.Mathlib.Omega.{arith}
 use lib.ListN.{length, take, drop, length-drop}
 use lib.Seq.{take_all}
-use Rattle.kiss_layout.specs.declared.Decoded.TheVariants.{Payload, MalformedKissFrame}
+use Rattle.std.specs.Prelude.{Err, Ok}
+use Rattle.kiss_layout.specs.declared.KissError.TheVariants.{MalformedKissFrame}
 use Rattle.kiss_layout.specs.Unescape.{unescaped}
 use Rattle.kiss_layout.specs.Scan.{is_fend, not_fend, stretch, run_of}
 use Rattle.kiss_layout.specs.Read.{content_in, payload_at, decoded}
@@ -14,7 +15,7 @@ use Rattle.kiss_layout.proofs.Scans.{no_header, header, stretch-found, stretch-n
 
 -- ---- a payload, found by the number of FENDs at the front and the number n of bytes from the header to the next FEND
 
-pub decoded_headless : (f d : List ℕ) {at : ℕ} → at ≡ run_of is_fend f → length f ≤ at → (MalformedKissFrame, d) ≡ decoded f d
+pub decoded_headless : (f d : List ℕ) {at : ℕ} → at ≡ run_of is_fend f → length f ≤ at → ((Err MalformedKissFrame), d) ≡ decoded f d
 unfolding decoded
 decoded_headless f d e h = sym (ap (λ (l : List ℕ). payload_at l d) (no_header f e h))
 
@@ -26,9 +27,9 @@ module _ (f d : List ℕ) {at n : ℕ} (e : at ≡ run_of is_fend f) (h : at < l
   unfolding decoded
   by-stretch s = sym (ap (λ (l : List ℕ). payload_at l d) (header f e h) ∙ ap (λ (o : Option (List ℕ)). content_in o d) s)
 
-  pub decoded_open : length f - (at + 1) ≤ n → (MalformedKissFrame, d) ≡ decoded f d
+  pub decoded_open : length f - (at + 1) ≤ n → ((Err MalformedKissFrame), d) ≡ decoded f d
   decoded_open k = by-stretch (stretch-none (drop (at + 1) f) (rw length-drop (rw behind at k)))
 
-  pub decoded_content : n < length f - (at + 1) → (c : ℕ) (r : List ℕ) → (c, r) ≡ unescaped (take n (drop (at + 1) f)) d → (Payload c, r) ≡ decoded f d
+  pub decoded_content : n < length f - (at + 1) → (c : ℕ) (r : List ℕ) → (c, r) ≡ unescaped (take n (drop (at + 1) f)) d → (Ok c, r) ≡ decoded f d
   decoded_content k c r u =
-      (λ t. (Payload (u t).0, (u t).1)) ∙ by-stretch (stretch-found (drop (at + 1) f) (rw length-drop (rw behind at k)) ∙ ap (λ (m : ℕ). some (take m (drop (at + 1) f))) (sym behind))
+      (λ t. (Ok (u t).0, (u t).1)) ∙ by-stretch (stretch-found (drop (at + 1) f) (rw length-drop (rw behind at k)) ∙ ap (λ (m : ℕ). some (take m (drop (at + 1) f))) (sym behind))

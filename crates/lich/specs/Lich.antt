@@ -1,13 +1,11 @@
 -- The LICH collection, from document 01 ("six segments of five bytes .. tells how many of the six segments have been heard, and yields 30 bytes when all have")
 -- and the M17 protocol specification's cutting of an LSF into six segments of five bytes. Assumes nothing.
-use Rattle.std.specs.Prelude.{ℕ, ◌+◌, ◌*◌, List, ltb, leb, eqb, replicate}
+use Rattle.std.specs.Prelude.{ℕ, ◌+◌, ◌*◌, List, ltb, leb, eqb, replicate, Result, Ok, Err}
 use Rattle.choice.specs.Pick.{pick}
 use Rattle.room.specs.Room.{placed}
 use Rattle.lich.specs.declared.LichCollection.{LichCollection}
-use Rattle.lich.specs.declared.ValidSegments.{ValidSegments}
-use Rattle.lich.specs.declared.ValidSegments.TheVariants.{Count, OutOfBounds as NoCount}
-use Rattle.lich.specs.declared.SegmentAnswer.{SegmentAnswer}
-use Rattle.lich.specs.declared.SegmentAnswer.TheVariants.{Done, IndexOver5, OutOfBounds as NotSet}
+use Rattle.lich.specs.declared.LichError.{LichError}
+use Rattle.lich.specs.declared.LichError.TheVariants.{OutOfBounds as NoCount, OutOfBounds as NotSet, IndexOver5}
 use Rattle.lich.specs.declared.SegmentSet.{SegmentSet}
 use Rattle.lich.specs.declared.Assembly.{Assembly}
 use Rattle.lich.specs.declared.Assembly.TheVariants.{Whole, Missing, OutOfBounds as NoAssembly}
@@ -33,8 +31,8 @@ heard_count mask = heard 0 mask + heard 1 mask + heard 2 mask + heard 3 mask + h
 abbrev pub new_collection : LichCollection
 new_collection = record { segments = replicate 30 0; mask = 0 }
 
-unfoldable pub valid_segments : LichCollection → ValidSegments
-valid_segments c = pick (leb 64 c.mask) NoCount (Count (heard_count c.mask))
+unfoldable pub valid_segments : LichCollection → Result ℕ LichError
+valid_segments c = pick (leb 64 c.mask) (Err NoCount) (Ok (heard_count c.mask))
 
 -- the collection with segment i heard
 unfoldable pub with_segment : ℕ → List ℕ → LichCollection → LichCollection
@@ -42,9 +40,9 @@ with_segment i p c = record { segments = placed p c.segments (5 * i); mask = wit
 
 unfoldable pub segment_set : LichCollection → ℕ → List ℕ → SegmentSet
 segment_set c i p =
-    pick (leb 64 c.mask) (record { answer = NotSet; collection = c })
-    (pick (ltb 5 i) (record { answer = IndexOver5; collection = c })
-    (record { answer = Done; collection = with_segment i p c }))
+    pick (leb 64 c.mask) (record { answer = Err NotSet; collection = c })
+    (pick (ltb 5 i) (record { answer = Err IndexOver5; collection = c })
+    (record { answer = Ok tt; collection = with_segment i p c }))
 
 unfoldable pub assembled : LichCollection → Assembled
 assembled c =
@@ -54,14 +52,14 @@ assembled c =
 
 -- ---- document 01's numbers for the answers
 
-abbrev pub count_number : ValidSegments → ℕ
-count_number (Count n) = 0
-count_number NoCount = 8
+abbrev pub count_number : Result ℕ LichError → ℕ
+count_number (Ok n) = 0
+count_number (Err NoCount) = 8
 
-abbrev pub set_number : SegmentAnswer → ℕ
-set_number Done = 0
-set_number IndexOver5 = 6
-set_number NotSet = 8
+abbrev pub set_number : Result (Unit {0}) LichError → ℕ
+set_number (Ok tt) = 0
+set_number (Err IndexOver5) = 6
+set_number (Err NotSet) = 8
 
 -- `Missing` is an answer 0: the result is that there is none yet
 abbrev pub assembly_number : Assembly → ℕ

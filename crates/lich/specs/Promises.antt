@@ -1,8 +1,7 @@
 -- What is promised of the LICH collection over several calls, from document 01 under "LSF, LICH, frames". Each is proved in proofs/Kept.antt. Assumes nothing.
-use Rattle.std.specs.Prelude.{ℕ, suc, ◌<◌, Bool, true, false, ◌≡◌, List, [], ◌∷◌, eqb, length}
+use Rattle.std.specs.Prelude.{ℕ, suc, ◌<◌, Bool, true, false, ◌≡◌, List, [], ◌∷◌, eqb, length, Ok}
 use Rattle.choice.specs.Pick.{pick}
 use Rattle.lich.specs.declared.LichCollection.{LichCollection}
-use Rattle.lich.specs.declared.SegmentAnswer.TheVariants.{Done}
 use Rattle.lich.specs.declared.Assembly.TheVariants.{Whole}
 use Rattle.lich.specs.Lich.{segment_of, heard_count, new_collection, with_segment, segment_set, assembled}
 
@@ -25,7 +24,7 @@ is_among i (s ∷ ss) = pick (eqb i s.index) true (is_among i ss)
 abbrev pub SegmentIsTaken : Type 0
 SegmentIsTaken =
     (ss : List Segment) (s : Segment) → segment_set (after_all ss new_collection) s.index s.bytes
-    ≡ record { answer = Done; collection = with_segment s.index s.bytes (after_all ss new_collection) }
+    ≡ record { answer = Ok tt; collection = with_segment s.index s.bytes (after_all ss new_collection) }
 
 -- how many distinct indices a list of calls has
 abbrev pub distinct : List Segment → ℕ

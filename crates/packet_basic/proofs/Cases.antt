@@ -5,8 +5,8 @@ use mathlib.Core.Path.{◌≡◌, ap, ◌∙◌}
 use mathlib.Core.List.{List}
 use borrow.Author.Tests.{le-leb, lt-leb}
 use Rattle.choice.specs.Pick.{pick}
-use Rattle.kiss_layout.specs.declared.Decoded.{Decoded}
-use Rattle.kiss_layout.specs.declared.Decoded.TheVariants.{Payload}
+use Rattle.std.specs.Prelude.{Result, ℕ, Ok}
+use Rattle.kiss_layout.specs.declared.KissError.{KissError}
 use Rattle.kiss_layout.specs.Read.{decoded}
 use Rattle.packets.specs.Frames.{zeros}
 use Rattle.packets.specs.Queue.{malformed, overlong, fills, basic_room, basic, made_basic}
@@ -20,12 +20,12 @@ module _ (f : List ℕ) where
 
   pub basic_malformed : is_payload (decoded f (zeros 1)).0 ≡ false → made_basic f ≡ malformed
   unfolding made_basic basic
-  basic_malformed e = ap (λ (x : Decoded). basic x (decoded f (zeros 824)).1) (no_payload (decoded f (zeros 824)).0 (any_room f (zeros 824) (zeros 1) ∙ e))
+  basic_malformed e = ap (λ (x : (Result ℕ KissError)). basic x (decoded f (zeros 824)).1) (no_payload (decoded f (zeros 824)).0 (any_room f (zeros 824) (zeros 1) ∙ e))
 
   module _ (e : is_payload (decoded f (zeros 1)).0 ≡ true) where
-    holds : made_basic f ≡ basic (Payload count) (decoded f (zeros 824)).1
+    holds : made_basic f ≡ basic (Ok count) (decoded f (zeros 824)).1
     unfolding made_basic
-    holds = ap (λ (x : Decoded). basic x (decoded f (zeros 824)).1) (some_payload (decoded f (zeros 824)).0 (any_room f (zeros 824) (zeros 1) ∙ e))
+    holds = ap (λ (x : (Result ℕ KissError)). basic x (decoded f (zeros 824)).1) (some_payload (decoded f (zeros 824)).0 (any_room f (zeros 824) (zeros 1) ∙ e))
 
     pub basic_overlong : 822 < count → made_basic f ≡ overlong
     unfolding basic pick

@@ -7,7 +7,9 @@ use native.Mathlib.Omega.{arith}
 use lib.ListN.{length, take, drop, set, replicate, length-set, length-append, length-replicate}
 use lib.Seq.{sets, sets-eq, length-sets, length-take-le, take_all, set-append_left, drop_at, drop-drop}
 use borrow.Rule.Slice.PartMut.{mid_of, put_mid}
-use Rattle.room.specs.declared.Copied.{Copied}
+use Rattle.std.specs.Prelude.{Result, ℕ}
+use Rattle.kiss_layout.specs.declared.KissError.{KissError}
+use Rattle.room.specs.declared.NoRoom.{NoRoom}
 use Rattle.room.specs.Room.{placed, copied}
 use Rattle.room.proofs.Copies.{copied_in}
 use Rattle.room.proofs.Places.{placed-length}
@@ -15,7 +17,6 @@ use Rattle.room.proofs.Runs.{sets_append, put_all, put_front}
 use Rattle.crc.specs.Crc.{crc_of, two_bytes}
 use Rattle.protocol.specs.Lsf.{part}
 use Rattle.protocol.specs.Basic.{basic_lsf}
-use Rattle.kiss_layout.specs.declared.Decoded.{Decoded}
 use Rattle.kiss_layout.specs.Read.{decoded}
 use Rattle.packets.specs.Frames.{zeros}
 use Rattle.packets.specs.Queue.{ROOM, RAW, basic_room}
@@ -100,15 +101,15 @@ module _ (s : List ℕ) (at : ℕ) (fits : at + ROOM ≤ length s) where
         ∙ sets_behind (zeros 31) (zeros 824) 0 v
         ∙ ap (λ (x : List ℕ). zeros 31 ++ x) (put_all (zeros 824) v (omega (arith, length-zeros 824))))
 
-    pub decoded-at : (f : List ℕ) {x y : Decoded} {v : List ℕ} → (x, v) ≡ decoded f (mid_of (at + 31) (at + ROOM - (at + 31)) s₁) → x ≡ y
+    pub decoded-at : (f : List ℕ) {x y : (Result ℕ KissError)} {v : List ℕ} → (x, v) ≡ decoded f (mid_of (at + 31) (at + ROOM - (at + 31)) s₁) → x ≡ y
         → (count_of y, put_mid (at + 31) (at + ROOM - (at + 31)) s₁ v) ≡ decoded_at f s at
     unfolding decoded_at
     decoded-at f {x} {y} {v} p e =
         let q = p ∙ ap (decoded f) lent in
-        let l : length v ≡ 824 = ap (λ (z : Decoded × List ℕ). length z.1) q ∙ (in_room f (zeros 824)).0 ∙ length-zeros 824 in
-        ap (λ (z : Decoded). (count_of z, put_mid (at + 31) (at + ROOM - (at + 31)) s₁ v)) (sym e)
+        let l : length v ≡ 824 = ap (λ (z : Result ℕ KissError × List ℕ). length z.1) q ∙ (in_room f (zeros 824)).0 ∙ length-zeros 824 in
+        ap (λ (z : (Result ℕ KissError)). (count_of z, put_mid (at + 31) (at + ROOM - (at + 31)) s₁ v)) (sym e)
         ∙ ap (λ (z : List ℕ). (count_of x, z)) (back v l)
-        ∙ ap (λ (z : Decoded × List ℕ). (count_of z.0, placed (zeros 31 ++ z.1) s at)) q
+        ∙ ap (λ (z : Result ℕ KissError × List ℕ). (count_of z.0, placed (zeros 31 ++ z.1) s at)) q
 
 -- the LSF and the type byte
 abbrev headed : List ℕ
@@ -187,7 +188,7 @@ module _ (f s : List ℕ) (at : ℕ) {n : ℕ} {s₁ : List ℕ} (e : (n, s₁) 
     decoded-keeps = ap length decoded-left ∙ placed-length (zeros 31 ++ (decoded f (zeros 824)).1) s at (omega (arith, long))
 
     -- too long: cleared again
-    pub cleared_again : {a : Copied} {s₂ : List ℕ} → (a, s₂) ≡ copied (replicate ROOM 0) s₁ at → s₂ ≡ placed (zeros ROOM) s at
+    pub cleared_again : {a : (Result (Unit {0}) NoRoom)} {s₂ : List ℕ} → (a, s₂) ≡ copied (replicate ROOM 0) s₁ at → s₂ ≡ placed (zeros ROOM) s at
     unfolding zeros
     cleared_again p =
         let r = zeros 31 ++ (decoded f (zeros 824)).1 in

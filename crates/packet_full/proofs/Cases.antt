@@ -6,22 +6,23 @@ use borrow.Author.Tests.{eq-eqb, ne_eqb, le-leb, lt-leb}
 use lib.ListN.{take}
 use Rattle.choice.specs.Pick.{pick, and}
 use Rattle.crc.specs.Crc.{crc_of}
-use Rattle.kiss_layout.specs.declared.Decoded.{Decoded}
-use Rattle.kiss_layout.specs.declared.Decoded.TheVariants.{Payload, MalformedKissFrame as NoPayload}
+use Rattle.std.specs.Prelude.{Result, ℕ, Err, Ok}
+use Rattle.kiss_layout.specs.declared.KissError.{KissError}
+use Rattle.kiss_layout.specs.declared.KissError.TheVariants.{MalformedKissFrame as NoPayload}
 use Rattle.kiss_layout.specs.Read.{decoded}
 use Rattle.packets.specs.Frames.{zeros}
 use Rattle.packets.specs.Queue.{ROOM, malformed, unfit, fills, full, made_full}
 
-module _ (f : List ℕ) {x : Decoded} {d : List ℕ} (e : (x, d) ≡ decoded f (zeros ROOM)) where
-  read_full : {y : Decoded} → x ≡ y → made_full f ≡ full y d
+module _ (f : List ℕ) {x : (Result ℕ KissError)} {d : List ℕ} (e : (x, d) ≡ decoded f (zeros ROOM)) where
+  read_full : {y : (Result ℕ KissError)} → x ≡ y → made_full f ≡ full y d
   unfolding made_full
-  read_full p = ap (λ (z : Decoded × List ℕ). full z.0 z.1) (sym e) ∙ ap (λ (z : Decoded). full z d) p
+  read_full p = ap (λ (z : Result ℕ KissError × List ℕ). full z.0 z.1) (sym e) ∙ ap (λ (z : (Result ℕ KissError)). full z d) p
 
-  pub full_malformed : x ≡ NoPayload → made_full f ≡ malformed
+  pub full_malformed : x ≡ (Err NoPayload) → made_full f ≡ malformed
   unfolding full
   full_malformed p = read_full p
 
-  module _ (n : ℕ) (p : x ≡ Payload n) where
+  module _ (n : ℕ) (p : x ≡ Ok n) where
     pub full_short : n < 33 → made_full f ≡ unfit
     unfolding full pick and
     full_short h = read_full p ∙ rw (lt-leb 33 n h)

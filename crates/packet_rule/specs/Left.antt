@@ -1,12 +1,14 @@
 -- What the packet queue has still to give: the frames of its waiting packets that it has not yet given, in order of acceptance, and the packet that a push accepts.
 -- From document 01's queue rule: over any calls the frames read "are a beginning of the accepted packets' frame lists joined in order of acceptance". Assumes nothing.
-use Rattle.std.specs.Prelude.{ℕ, zero, suc, ◌+◌, ◌-◌, ◌*◌, ◌/◌, ◌%◌, Bool, List, [], ◌∷◌, ◌++◌, get_or}
+use Rattle.std.specs.Prelude.{ℕ, zero, suc, ◌+◌, ◌-◌, ◌*◌, ◌/◌, ◌%◌, Bool, List, [], ◌∷◌, ◌++◌, get_or, Result, Ok, Err}
 use Rattle.choice.specs.Pick.{pick}
 use Rattle.protocol.specs.Lsf.{part}
 use Rattle.packets.specs.declared.Place.{Place}
 use Rattle.packets.specs.declared.PacketQueue.{PacketQueue}
-use Rattle.packets.specs.declared.PushAnswer.{PushAnswer}
-use Rattle.packets.specs.declared.PushAnswer.TheVariants.{Queued, Ignored, MalformedKissFrame, WrongStore, OutOfBounds}
+use Rattle.packets.specs.declared.Push.{Push}
+use Rattle.kiss_layout.specs.declared.PushError.{PushError}
+use Rattle.packets.specs.declared.Push.TheVariants.{Queued, Ignored}
+use Rattle.kiss_layout.specs.declared.PushError.TheVariants.{MalformedKissFrame, WrongStore, OutOfBounds}
 use Rattle.packets.specs.Frames.{Packet, AirFrame, setup, data_frames}
 use Rattle.packets.specs.Queue.{ROOM, no_packet, Made, malformed, unfit, overlong, fills, packet_in}
 
@@ -48,9 +50,9 @@ filled overlong = []
 filled (fills room len) = packet_in room len ∷ []
 
 -- the packets that a push with that answer accepted: one or none
-abbrev pub accepted_by : PushAnswer → Made → List Packet
-accepted_by Queued made = filled made
-accepted_by Ignored made = []
-accepted_by MalformedKissFrame made = []
-accepted_by WrongStore made = []
-accepted_by OutOfBounds made = []
+abbrev pub accepted_by : Result Push PushError → Made → List Packet
+accepted_by (Ok Queued) made = filled made
+accepted_by (Ok Ignored) made = []
+accepted_by (Err MalformedKissFrame) made = []
+accepted_by (Err WrongStore) made = []
+accepted_by (Err OutOfBounds) made = []

@@ -16,11 +16,13 @@ use Rattle.room.proofs.Places.{placed-length}
 use Rattle.crc.specs.Crc.{crc_of, two_bytes, sealed}
 use Rattle.protocol.specs.Lsf.{part}
 use Rattle.protocol.specs.Basic.{basic_lsf}
-use Rattle.kiss_layout.specs.declared.Decoded.{Decoded}
-use Rattle.kiss_layout.specs.declared.Decoded.TheVariants.{Payload, MalformedKissFrame as NoPayload}
+use Rattle.std.specs.Prelude.{Ok, Err, Result, ℕ}
+use Rattle.packets.specs.declared.Push.TheVariants.{Ignored}
+use Rattle.kiss_layout.specs.declared.PushError.TheVariants.{WrongStore, OutOfBounds}
+use Rattle.kiss_layout.specs.declared.KissError.{KissError}
+use Rattle.kiss_layout.specs.declared.KissError.TheVariants.{MalformedKissFrame as NoPayload}
 use Rattle.kiss_layout.specs.Read.{decoded}
 use Rattle.packets.specs.declared.PacketQueue.{PacketQueue}
-use Rattle.packets.specs.declared.PushAnswer.TheVariants.{Ignored, WrongStore, OutOfBounds}
 use Rattle.packets.specs.declared.Pushed.{Pushed}
 use Rattle.packets.specs.declared.PacketRead.{PacketRead}
 use Rattle.packets.specs.declared.ReadAnswer.TheVariants.{Nothing, WrongStore as NoStore, OutOfBounds as NoState}
@@ -40,7 +42,7 @@ unfolding pushing pick obeyed
 push_keeps q s m = by (eqb (length s) STORE) (sound_queue q) q.full m
   where
     by : (a b c : Bool) (m : Made)
-        → KeptBy q s (pick a (pick b (pick c (not_pushed Ignored q s) (obeyed q s m)) (not_pushed OutOfBounds q s)) (not_pushed WrongStore q s))
+        → KeptBy q s (pick a (pick b (pick c (not_pushed (Ok Ignored) q s) (obeyed q s m)) (not_pushed (Err OutOfBounds) q s)) (not_pushed (Err WrongStore) q s))
     by true true true m f = (refl, refl)
     by true true false malformed f = (refl, refl)
     by true true false unfit f = (refl, refl)
@@ -93,16 +95,16 @@ basic_room_length n d l h =
     let c : List ℕ = two_bytes (crc_of (RAW ∷ take n d)) in
     omega (arith, length-append basic_lsf (RAW ∷ placed c d n), basic_lsf_length, placed-length c d n (omega arith))
 
-basic_fit : (x : Decoded) (d : List ℕ) → length d ≡ 824 → Fits (basic x d)
+basic_fit : (x : (Result ℕ KissError)) (d : List ℕ) → length d ≡ 824 → Fits (basic x d)
 unfolding basic
-basic_fit NoPayload d l = fits_malformed
-basic_fit (Payload n) d l =
+basic_fit (Err NoPayload) d l = fits_malformed
+basic_fit (Ok n) d l =
     pick_all Fits (leb n 822) _ _ (λ h. let k = leb-true n 822 h in fits_fills (basic_room_length n d l k) (omega arith)) (λ _. fits_overlong)
 
-full_fit : (x : Decoded) (d : List ℕ) → length d ≡ ROOM → count_of x ≤ ROOM → Fits (full x d)
+full_fit : (x : (Result ℕ KissError)) (d : List ℕ) → length d ≡ ROOM → count_of x ≤ ROOM → Fits (full x d)
 unfolding full
-full_fit NoPayload d l h = fits_malformed
-full_fit (Payload n) d l h = pick_all Fits _ _ _ (λ _. fits_fills l (omega arith)) (λ _. fits_unfit)
+full_fit (Err NoPayload) d l h = fits_malformed
+full_fit (Ok n) d l h = pick_all Fits _ _ _ (λ _. fits_fills l (omega arith)) (λ _. fits_unfit)
 
 pub made_basic_fit : (f : List ℕ) → Fits (made_basic f)
 unfolding made_basic

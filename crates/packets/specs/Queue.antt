@@ -1,6 +1,6 @@
 -- The packet queue: a record of four places, and a store of four rooms of 855 bytes beside it (LSF 30, data 825). What each call answers, and the record and every byte of
 -- the store after it, from document 01 under "The TNC", "Answer numbers" and "Bounds for 8". Assumes nothing.
-use Rattle.std.specs.Prelude.{ℕ, zero, suc, ◌+◌, ◌-◌, ◌*◌, ◌/◌, ◌%◌, min, Bool, true, false, List, [], ◌∷◌, ◌++◌, ltb, leb, eqb, length, get_or, set, take, replicate}
+use Rattle.std.specs.Prelude.{ℕ, zero, suc, ◌+◌, ◌-◌, ◌*◌, ◌/◌, ◌%◌, min, Bool, true, false, List, [], ◌∷◌, ◌++◌, ltb, leb, eqb, length, get_or, set, take, replicate, Result, Err, Ok}
 use Rattle.choice.specs.Pick.{pick, and}
 use Rattle.choice.specs.Cases.{all_pass}
 use Rattle.room.specs.Room.{placed}
@@ -9,13 +9,15 @@ use Rattle.protocol.specs.Lsf.{part}
 use Rattle.protocol.specs.Basic.{basic_lsf}
 use Rattle.protocol.specs.declared.PacketFrame.{PacketFrame}
 use Rattle.protocol.specs.declared.PacketFrameCounter.TheVariants.{Frame}
-use Rattle.kiss_layout.specs.declared.Decoded.{Decoded}
-use Rattle.kiss_layout.specs.declared.Decoded.TheVariants.{Payload, MalformedKissFrame as NoPayload}
+use Rattle.kiss_layout.specs.declared.KissError.{KissError}
+use Rattle.kiss_layout.specs.declared.KissError.TheVariants.{MalformedKissFrame as NoPayload}
+use Rattle.packets.specs.declared.Push.{Push}
+use Rattle.kiss_layout.specs.declared.PushError.{PushError}
+use Rattle.kiss_layout.specs.declared.PushError.TheVariants.{MalformedKissFrame, OutOfBounds, WrongStore}
+use Rattle.packets.specs.declared.Push.TheVariants.{Ignored, Queued}
 use Rattle.kiss_layout.specs.Read.{decoded}
 use Rattle.packets.specs.declared.Place.{Place}
 use Rattle.packets.specs.declared.PacketQueue.{PacketQueue}
-use Rattle.packets.specs.declared.PushAnswer.{PushAnswer}
-use Rattle.packets.specs.declared.PushAnswer.TheVariants.{Queued, Ignored, MalformedKissFrame, WrongStore, OutOfBounds}
 use Rattle.packets.specs.declared.Pushed.{Pushed}
 use Rattle.packets.specs.declared.ReadAnswer.{ReadAnswer}
 use Rattle.packets.specs.declared.ReadAnswer.TheVariants.{Nothing, Lsf, Packet as PacketPiece, End, WrongStore as NoStore, OutOfBounds as NoState}
@@ -72,14 +74,14 @@ unfoldable pub basic_room : ℕ → List ℕ → List ℕ
 basic_room n decoded_room = basic_lsf ++ (RAW ∷ placed (two_bytes (crc_of (RAW ∷ take n decoded_room))) decoded_room n)
 
 -- up to 822 bytes are queued, more are ignored
-unfoldable pub basic : Decoded → List ℕ → Made
-basic NoPayload decoded_room = malformed
-basic (Payload n) decoded_room = pick (leb n 822) (fills (basic_room n decoded_room) (n + 3)) overlong
+unfoldable pub basic : Result ℕ KissError → List ℕ → Made
+basic (Err NoPayload) decoded_room = malformed
+basic (Ok n) decoded_room = pick (leb n 822) (fills (basic_room n decoded_room) (n + 3)) overlong
 
 -- under 33, or an LSF whose CRC is not 0, is ignored
-unfoldable pub full : Decoded → List ℕ → Made
-full NoPayload decoded_room = malformed
-full (Payload n) decoded_room = pick (and (leb 33 n) (eqb (crc_of (take 30 decoded_room)) 0)) (fills decoded_room (n - 30)) unfit
+unfoldable pub full : Result ℕ KissError → List ℕ → Made
+full (Err NoPayload) decoded_room = malformed
+full (Ok n) decoded_room = pick (and (leb 33 n) (eqb (crc_of (take 30 decoded_room)) 0)) (fills decoded_room (n - 30)) unfit
 
 -- every room decoded into is first all zero; behind the type byte there are 824 bytes
 unfoldable pub made_basic : List ℕ → Made
@@ -103,22 +105,22 @@ with_packet q len =
 abbrev pub stored : List ℕ → ℕ → List ℕ → List ℕ
 stored store k room = placed room store (ROOM * k)
 
-abbrev pub not_pushed : PushAnswer → PacketQueue → List ℕ → Pushed × List ℕ
+abbrev pub not_pushed : Result Push PushError → PacketQueue → List ℕ → Pushed × List ℕ
 not_pushed answer q store = (record { answer = answer; queue = q }, store)
 
 -- where there is a free place
 unfoldable pub obeyed : PacketQueue → List ℕ → Made → Pushed × List ℕ
-obeyed q store malformed = not_pushed MalformedKissFrame q store
-obeyed q store unfit = not_pushed Ignored q store
-obeyed q store overlong = not_pushed Ignored q (stored store q.next (zeros ROOM))
-obeyed q store (fills room len) = (record { answer = Queued; queue = with_packet q len }, stored store q.next room)
+obeyed q store malformed = not_pushed (Err MalformedKissFrame) q store
+obeyed q store unfit = not_pushed (Ok Ignored) q store
+obeyed q store overlong = not_pushed (Ok Ignored) q (stored store q.next (zeros ROOM))
+obeyed q store (fills room len) = (record { answer = Ok Queued; queue = with_packet q len }, stored store q.next room)
 
 -- a full queue is looked at before decoding
 unfoldable pub pushing : PacketQueue → List ℕ → Made → Pushed × List ℕ
 pushing q store made =
     pick (eqb (length store) STORE)
-    (pick (sound_queue q) (pick q.full (not_pushed Ignored q store) (obeyed q store made)) (not_pushed OutOfBounds q store))
-    (not_pushed WrongStore q store)
+    (pick (sound_queue q) (pick q.full (not_pushed (Ok Ignored) q store) (obeyed q store made)) (not_pushed (Err OutOfBounds) q store))
+    (not_pushed (Err WrongStore) q store)
 
 unfoldable pub pushed_basic : PacketQueue → List ℕ → List ℕ → Pushed × List ℕ
 pushed_basic q frame store = pushing q store (made_basic frame)
@@ -188,12 +190,12 @@ frames_in NoState r = []
 
 -- ---- document 01's numbers for the answers
 
-abbrev pub push_number : PushAnswer → ℕ
-push_number Queued = 0
-push_number Ignored = 0
-push_number MalformedKissFrame = 3
-push_number WrongStore = 7
-push_number OutOfBounds = 8
+abbrev pub push_number : Result Push PushError → ℕ
+push_number (Ok Queued) = 0
+push_number (Ok Ignored) = 0
+push_number (Err MalformedKissFrame) = 3
+push_number (Err WrongStore) = 7
+push_number (Err OutOfBounds) = 8
 
 abbrev pub read_number : ReadAnswer → ℕ
 read_number Nothing = 0

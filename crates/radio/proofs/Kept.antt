@@ -8,7 +8,8 @@ use borrow.Author.Tests.{eq-eqb}
 use Rattle.choice.specs.Pick.{pick, and_both}
 use Rattle.kiss_layout.specs.Build.{frame_of}
 use Rattle.kiss_layout.proofs.Kept.{built_at_most_1713}
-use Rattle.radio.specs.declared.AirAnswer.{AirAnswer}
+use Rattle.std.specs.Prelude.{Result}
+use Rattle.radio.specs.declared.AirError.{AirError}
 use Rattle.radio.specs.declared.Heard.{Heard}
 use Rattle.radio.specs.declared.Hears.{Hears}
 use Rattle.radio.specs.declared.Hears.TheVariants.{Frame, Answer}
@@ -35,7 +36,7 @@ sending_hears_nothing x h s on = rw (eq-eqb (length x.rx) RX s.its_rx, eq-eqb (l
 
 -- what holds of each outcome of a frame holds of what comes of it
 pub each : (P : Heard × List ℕ × List ℕ → Type 0) (x : Box) (h : Heard × List ℕ × List ℕ)
-    → ((a : AirAnswer) → P (answered a x.radio, x.rx, x.out)) → (Receiving x → P h) → P (unless_sending x.radio x.rx x.out h)
+    → ((a : (Result (Unit {0}) AirError)) → P (answered a x.radio, x.rx, x.out)) → (Receiving x → P h) → P (unless_sending x.radio x.rx x.out h)
 unfolding unless_sending
 each P x h kept f = go (hears_of x.radio x.rx x.out) refl
   where

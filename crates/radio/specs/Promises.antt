@@ -1,13 +1,12 @@
 -- What is promised of every call with a frame from the air, whatever the frame does where it is listened to, from document 01. Each is proved in proofs/Kept.antt.
 -- Assumes nothing.
-use Rattle.std.specs.Prelude.{ℕ, true, ◌≡◌, List}
+use Rattle.std.specs.Prelude.{ℕ, true, ◌≡◌, List, Result, Ok}
 use Rattle.kiss_layout.specs.Build.{Building, frame_of}
 use Rattle.kiss_layout.specs.Promises.{Accepted}
 use Rattle.outgoing.specs.Message.{left}
 use Rattle.state.specs.declared.State.{State}
 use Rattle.state.specs.State.{transmits, sound_state}
-use Rattle.radio.specs.declared.AirAnswer.{AirAnswer}
-use Rattle.radio.specs.declared.AirAnswer.TheVariants.{Done}
+use Rattle.radio.specs.declared.AirError.{AirError}
 use Rattle.radio.specs.declared.Heard.{Heard}
 use Rattle.radio.specs.declared.Radio.{Radio}
 use Rattle.radio.specs.declared.Hears.TheVariants.{Frame}
@@ -16,7 +15,7 @@ use Rattle.radio.specs.Box.{Box, left_by, Sound, Receiving}
 
 -- an answer by which nothing changes says what it was given, and the radio is as it was
 abbrev pub AnsweredKeepsAll : Type 0
-AnsweredKeepsAll = (a : AirAnswer) (r : Radio) → ((answered a r).answer ≡ a) × ((answered a r).radio ≡ r)
+AnsweredKeepsAll = (a : (Result (Unit {0}) AirError)) (r : Radio) → ((answered a r).answer ≡ a) × ((answered a r).radio ≡ r)
 
 -- a frame is listened to exactly where all is sound and PTT is off
 abbrev pub ReceivingHears : Type 0
@@ -32,7 +31,7 @@ ListenedTo = (x : Box) (h : Heard × List ℕ × List ℕ) → Receiving x → u
 -- while PTT is on, the answer is 0 and nothing changes
 abbrev pub SendingHearsNothing : Type 0
 SendingHearsNothing =
-    (x : Box) (h : Heard × List ℕ × List ℕ) → Sound x → transmits x.radio.state ≡ true → unless_sending x.radio x.rx x.out h ≡ (answered Done x.radio, x.rx, x.out)
+    (x : Box) (h : Heard × List ℕ × List ℕ) → Sound x → transmits x.radio.state ≡ true → unless_sending x.radio x.rx x.out h ≡ (answered (Ok tt) x.radio, x.rx, x.out)
 
 -- what a builder made of arguments that it accepts and that goes to the host is what the host has to read, and leaves a sound box so
 pub record Told (y : Box) (s : State) (b : Building) : Type 0 where

@@ -1,5 +1,5 @@
 -- The radio's record and what every call with a frame from the air has in common, from document 01's "From the air", "Answer numbers" and "Bounds for 8". Assumes nothing.
-use Rattle.std.specs.Prelude.{ℕ, Bool, List, eqb, length}
+use Rattle.std.specs.Prelude.{ℕ, Bool, List, eqb, length, Result, Ok, Err}
 use Rattle.choice.specs.Pick.{pick, and}
 use Rattle.room.specs.Room.{over}
 use Rattle.kiss_layout.specs.Build.{Building, frame_of}
@@ -7,8 +7,8 @@ use Rattle.outgoing.specs.Message.{sound_message}
 use Rattle.state.specs.declared.State.{State}
 use Rattle.state.specs.State.{transmits, sound_state}
 use Rattle.radio.specs.declared.Radio.{Radio}
-use Rattle.radio.specs.declared.AirAnswer.{AirAnswer}
-use Rattle.radio.specs.declared.AirAnswer.TheVariants.{Done, OutOfRange, WrongStore, OutOfBounds}
+use Rattle.radio.specs.declared.AirError.{AirError}
+use Rattle.radio.specs.declared.AirError.TheVariants.{WrongStore, OutOfBounds, OutOfRange}
 use Rattle.radio.specs.declared.Heard.{Heard}
 use Rattle.radio.specs.declared.Hears.{Hears}
 use Rattle.radio.specs.declared.Hears.TheVariants.{Frame, Answer}
@@ -23,23 +23,23 @@ MESSAGE = 1713
 unfoldable pub sound_radio : Radio → Bool
 sound_radio r = and (sound_state r.state) (sound_message r.outgoing)
 
-abbrev pub answered : AirAnswer → Radio → Heard
+abbrev pub answered : Result (Unit {0}) AirError → Radio → Heard
 answered a r = record { answer = a; radio = r }
 
 -- another state, and a message that waits goes on waiting
 abbrev pub turned : State → Radio → Heard
-turned s r = answered Done (record { state = s; outgoing = r.outgoing })
+turned s r = answered (Ok tt) (record { state = s; outgoing = r.outgoing })
 
 -- a new message to the host replaces one not fully read
 abbrev pub to_host : State → Building → List ℕ → Heard × List ℕ
-to_host s b out = (answered Done (record { state = s; outgoing = record { len = length (frame_of b); read = 0 } }), over (frame_of b) out)
+to_host s b out = (answered (Ok tt) (record { state = s; outgoing = record { len = length (frame_of b); read = 0 } }), over (frame_of b) out)
 
 -- the order is 7 for the stores, 8 for the record, and then, while PTT is on, 0
 unfoldable pub hears_by : Radio → ℕ → ℕ → Hears
 hears_by r rx out =
     pick (eqb rx RX)
-    (pick (eqb out MESSAGE) (pick (sound_radio r) (pick (transmits r.state) (Answer Done) Frame) (Answer OutOfBounds)) (Answer WrongStore))
-    (Answer WrongStore)
+    (pick (eqb out MESSAGE) (pick (sound_radio r) (pick (transmits r.state) (Answer (Ok tt)) Frame) (Answer (Err OutOfBounds))) (Answer (Err WrongStore)))
+    (Answer (Err WrongStore))
 
 -- of the stores only their lengths count
 abbrev pub hears_of : Radio → List ℕ → List ℕ → Hears
@@ -54,8 +54,8 @@ unfoldable pub unless_sending : Radio → List ℕ → List ℕ → Heard × Lis
 unless_sending r rx out h = listening (hears_of r rx out) r rx out h
 
 -- document 01's numbers for the answers
-abbrev pub air_number : AirAnswer → ℕ
-air_number Done = 0
-air_number OutOfRange = 6
-air_number WrongStore = 7
-air_number OutOfBounds = 8
+abbrev pub air_number : Result (Unit {0}) AirError → ℕ
+air_number (Ok tt) = 0
+air_number (Err OutOfRange) = 6
+air_number (Err WrongStore) = 7
+air_number (Err OutOfBounds) = 8

@@ -1,8 +1,8 @@
 -- Bytes in a room that a caller lends, from document 01's answer 7 and "Bytes of a room beyond a built frame or a payload's count stay". Assumes nothing.
-use Rattle.std.specs.Prelude.{ℕ, ◌+◌, ◌-◌, Bool, List, ◌++◌, leb, length, take, drop}
+use Rattle.std.specs.Prelude.{ℕ, ◌+◌, ◌-◌, Bool, List, ◌++◌, leb, length, take, drop, Result, Ok, Err}
 use Rattle.choice.specs.Pick.{pick, and}
-use Rattle.room.specs.declared.Copied.{Copied}
-use Rattle.room.specs.declared.Copied.TheVariants.{Done, NoRoom}
+use Rattle.room.specs.declared.NoRoom.{NoRoom}
+use Rattle.room.specs.Room.{no_room}
 
 -- whether xs fits into the room d; an exact fit is one
 abbrev pub fits : List ℕ → List ℕ → Bool
@@ -17,14 +17,14 @@ abbrev pub placed : List ℕ → List ℕ → ℕ → List ℕ
 placed xs d at = take at d ++ xs ++ drop (at + length xs) d
 
 -- the answer of `copy_in`, and the room after it
-unfoldable pub copied : List ℕ → List ℕ → ℕ → Copied × List ℕ
-copied xs d at = pick (leb (at + length xs) (length d)) (Done, placed xs d at) (NoRoom, d)
+unfoldable pub copied : List ℕ → List ℕ → ℕ → Result (Unit {0}) NoRoom × List ℕ
+copied xs d at = pick (leb (at + length xs) (length d)) ((Ok tt), placed xs d at) ((Err no_room), d)
 
 -- the answer of `shift`, and the room after it: the bytes of d from place `from` up to place `to` stand over its start
-unfoldable pub shifted : List ℕ → ℕ → ℕ → Copied × List ℕ
-shifted d from to = pick (and (leb from to) (leb to (length d))) (Done, over (take (to - from) (drop from d)) d) (NoRoom, d)
+unfoldable pub shifted : List ℕ → ℕ → ℕ → Result (Unit {0}) NoRoom × List ℕ
+shifted d from to = pick (and (leb from to) (leb to (length d))) ((Ok tt), over (take (to - from) (drop from d)) d) ((Err no_room), d)
 
 -- document 01's number of an answer
-abbrev pub number_of : Copied → ℕ
-number_of Done = 0
-number_of NoRoom = 7
+abbrev pub number_of : Result (Unit {0}) NoRoom → ℕ
+number_of (Ok tt) = 0
+number_of (Err no_room) = 7

@@ -1,16 +1,16 @@
 -- Document 01's starred examples ("Examples at the edges"): one list of them, one test over it, and the statement that each passes, proved in proofs/Kept.antt.
 -- Assumes nothing.
-use Rattle.std.specs.Prelude.{ℕ, Bool, true, false, ◌≡◌, List, [], ◌∷◌, ◌++◌, map, eqb, take, replicate}
+use Rattle.std.specs.Prelude.{ℕ, Bool, true, false, ◌≡◌, List, [], ◌∷◌, ◌++◌, map, eqb, take, replicate, Result, Ok, Err}
 use Rattle.choice.specs.Pick.{and}
 use Rattle.choice.specs.Cases.{all_pass, same}
 use Rattle.protocol.specs.declared.PacketFrameCounter.{PacketFrameCounter}
 use Rattle.protocol.specs.declared.PacketFrameCounter.TheVariants.{Frame as Counted, FinalFrame}
-use Rattle.kiss_layout.specs.declared.Escaped.{Escaped}
-use Rattle.kiss_layout.specs.declared.Escaped.TheVariants.{Wrote, NoRoom as NoRoomFor}
+use Rattle.room.specs.declared.NoRoom.{NoRoom}
+use Rattle.room.specs.Room.{no_room}
+use Rattle.kiss_layout.specs.declared.BuildError.{BuildError}
+use Rattle.kiss_layout.specs.declared.BuildError.TheVariants.{PayloadTooBig, LsfWrongSize, OutOfRange, NoRoom}
 use Rattle.kiss_layout.specs.Escape.{escaped}
 use Rattle.kiss_layout.specs.Unescape.{unescaped}
-use Rattle.kiss_layout.specs.declared.Built.{Built}
-use Rattle.kiss_layout.specs.declared.Built.TheVariants.{Frame, PayloadTooBig, LsfWrongSize, OutOfRange, NoRoom}
 use Rattle.kiss_layout.specs.Build.{Building, set_tx_delay, built}
 use Rattle.kiss_reader.specs.Meaning.{frames_of}
 use Rattle.packets.specs.Frames.{AirFrame, setup, piece, data_frames}
@@ -47,9 +47,9 @@ starred =
 
 -- ---- the test
 
-abbrev pub wrote : Escaped → List ℕ → List ℕ → Bool
-wrote (Wrote n) room gives = same (take n room) gives
-wrote NoRoomFor room gives = false
+abbrev pub wrote : Result ℕ NoRoom → List ℕ → List ℕ → Bool
+wrote (Ok n) room gives = same (take n room) gives
+wrote (Err no_room) room gives = false
 
 unfoldable pub same_frames : List (List ℕ) → List (List ℕ) → Bool
 same_frames [] [] = true
@@ -57,12 +57,12 @@ same_frames [] (g ∷ gs) = false
 same_frames (f ∷ fs) [] = false
 same_frames (f ∷ fs) (g ∷ gs) = and (same f g) (same_frames fs gs)
 
-abbrev pub framed : Built → List ℕ → List ℕ → Bool
-framed (Frame n) room gives = same (take n room) gives
-framed PayloadTooBig room gives = false
-framed LsfWrongSize room gives = false
-framed OutOfRange room gives = false
-framed NoRoom room gives = false
+abbrev pub framed : Result ℕ BuildError → List ℕ → List ℕ → Bool
+framed (Ok n) room gives = same (take n room) gives
+framed (Err PayloadTooBig) room gives = false
+framed (Err LsfWrongSize) room gives = false
+framed (Err OutOfRange) room gives = false
+framed (Err NoRoom) room gives = false
 
 abbrev pub same_counter : PacketFrameCounter → PacketFrameCounter → Bool
 same_counter (Counted i) (Counted j) = eqb i j

@@ -11,8 +11,8 @@ use Rattle.choice.specs.Pick.{pick}
 use Rattle.room.specs.Room.{over}
 use Rattle.protocol.specs.declared.StreamFrame.{StreamFrame}
 use Rattle.protocol.specs.Lsf.{part}
-use Rattle.kiss_layout.specs.declared.Decoded.{Decoded}
-use Rattle.kiss_layout.specs.declared.Decoded.TheVariants.{Payload}
+use Rattle.std.specs.Prelude.{Ok, Result, ℕ}
+use Rattle.kiss_layout.specs.declared.KissError.{KissError}
 use Rattle.kiss_layout.specs.Stream.{stream_content, stream_of}
 use Rattle.kiss_layout.specs.Build.{stream_setup, stream_data, refusal, frame_of}
 use Rattle.kiss_layout.specs.Promises.{Accepted}
@@ -35,23 +35,23 @@ module _ (f : StreamFrame) (ok : Accepted (stream_data f)) where
   content_length : length (stream_content f) ≡ 26
   content_length = stream-length f ok.typed.0 ok.typed.1
 
-  data_decoded : decoded_of (frame_of (stream_data f)) ≡ (Payload (length (stream_content f)), over (stream_content f) (replicate 30 0))
+  data_decoded : decoded_of (frame_of (stream_data f)) ≡ (Ok (length (stream_content f)), over (stream_content f) (replicate 30 0))
   data_decoded = (built_reads_back (stream_data f) ok).its_payload (replicate 30 0) (omega (arith, content_length))
 
-  pub data_count : (decoded_of (frame_of (stream_data f))).0 ≡ Payload 26
-  data_count = ap (λ (d : Decoded × List ℕ). d.0) data_decoded ∙ ap Payload content_length
+  pub data_count : (decoded_of (frame_of (stream_data f))).0 ≡ Ok 26
+  data_count = ap (λ (d : Result ℕ KissError × List ℕ). d.0) data_decoded ∙ ap Ok content_length
 
   pub data_frame : stream_of (decoded_of (frame_of (stream_data f))).1 ≡ f
   data_frame =
-      ap (λ (d : Decoded × List ℕ). stream_of d.1) data_decoded
+      ap (λ (d : Result ℕ KissError × List ℕ). stream_of d.1) data_decoded
       ∙ stream-front (stream_content f) (drop (length (stream_content f)) (replicate 30 0)) content_length
       ∙ (stream_content_reads_back f ok).0
 
 -- an LSF fills the room
-pub lsf_decoded : (lsf : List ℕ) → length lsf ≡ 30 → decoded_of (frame_of (stream_setup lsf)) ≡ (Payload 30, lsf)
+pub lsf_decoded : (lsf : List ℕ) → length lsf ≡ 30 → decoded_of (frame_of (stream_setup lsf)) ≡ (Ok 30, lsf)
 unfolding refusal pick
 lsf_decoded lsf l =
     let z : List ℕ = replicate 30 0 in
     let ok : Accepted (stream_setup lsf) = record { typed = tt; not_refused = rw (eq-eqb (length lsf) 30 l) } in
     let all : over lsf z ≡ lsf = ap (λ (n : ℕ). lsf ++ drop n z) l ∙ append-nil lsf in
-    (built_reads_back (stream_setup lsf) ok).its_payload z (omega arith) ∙ (λ t. (Payload (l t), all t))
+    (built_reads_back (stream_setup lsf) ok).its_payload z (omega arith) ∙ (λ t. (Ok (l t), all t))

@@ -9,10 +9,11 @@ use borrow.Author.Tests.{eq-eqb, ne_eqb, le-leb, lt-leb, ltb-true}
 use Rattle.choice.specs.Pick.{pick, and_fst, and_snd}
 use Rattle.room.specs.Room.{placed}
 use Rattle.crc.specs.Crc.{crc_of}
-use Rattle.kiss_layout.specs.declared.Decoded.{Decoded}
+use Rattle.std.specs.Prelude.{Result, ℕ, Ok}
+use Rattle.kiss_layout.specs.declared.KissError.{KissError}
+use Rattle.streams.specs.declared.StreamPush.TheVariants.{Ignored, Queued, LsfPending}
 use Rattle.kiss_layout.specs.Stream.{stream_of}
 use Rattle.streams.specs.declared.StreamQueue.{StreamQueue}
-use Rattle.streams.specs.declared.StreamAnswer.TheVariants.{Queued, LsfPending, Ignored}
 use Rattle.streams.specs.declared.StreamReadAnswer.TheVariants.{Nothing, WrongStore as NoStore, OutOfBounds as NoState}
 use Rattle.streams.specs.Layout.{FRAME, bytes_of}
 use Rattle.streams.specs.Queue.{PLACES, LSF, STORE, IGNORED, DATA, sound_queue, empty_queue, queued, with_pending, not_pushed, data_pushed, lsf_pushed, payload_pushed, decoded_pushed, decoded_of, pushed, not_read, lsf_read, frame_read, next_read, read_next}
@@ -31,29 +32,29 @@ curr_below q e = ltb-true q.curr PLACES (and_fst _ _ (and_snd _ _ e))
 
 module _ (q : StreamQueue) (frame store : List ℕ) where
   -- past the tests, once the frame is decoded
-  pub pushed-decoded : length store ≡ STORE → sound_queue q ≡ true → {r : Decoded} (payload : List ℕ) → (r, payload) ≡ decoded_of frame → (d : Decoded) → r ≡ d
+  pub pushed-decoded : length store ≡ STORE → sound_queue q ≡ true → {r : (Result ℕ KissError)} (payload : List ℕ) → (r, payload) ≡ decoded_of frame → (d : (Result ℕ KissError)) → r ≡ d
       → decoded_pushed d q payload store ≡ pushed q frame store
   unfolding pushed pick
   pushed-decoded l e payload p d g =
-      ap (λ (x : Decoded). decoded_pushed x q payload store) (sym g)
-      ∙ ap (λ (x : Decoded × List ℕ). decoded_pushed x.0 q x.1 store) p
+      ap (λ (x : (Result ℕ KissError)). decoded_pushed x q payload store) (sym g)
+      ∙ ap (λ (x : Result ℕ KissError × List ℕ). decoded_pushed x.0 q x.1 store) p
       ∙ rw (eq-eqb (length store) STORE l, e)
 
 module _ (q : StreamQueue) (payload store : List ℕ) where
-  pub data_full : q.full ≡ true → not_pushed Ignored q store ≡ data_pushed q payload store
+  pub data_full : q.full ≡ true → not_pushed (Ok Ignored) q store ≡ data_pushed q payload store
   unfolding data_pushed pick
   data_full t = rw t
 
-  pub data_roomy : q.full ≡ false → (record { answer = Queued; queue = queued q }, placed (bytes_of (stream_of payload)) store (FRAME * q.next)) ≡ data_pushed q payload store
+  pub data_roomy : q.full ≡ false → (record { answer = Ok Queued; queue = queued q }, placed (bytes_of (stream_of payload)) store (FRAME * q.next)) ≡ data_pushed q payload store
   unfolding data_pushed pick
   data_roomy t = rw t
 
-  pub lsf_right : {n : ℕ} → n ≡ crc_of payload → n ≡ 0 → (record { answer = LsfPending; queue = with_pending true q }, placed payload store LSF) ≡ lsf_pushed q payload store
+  pub lsf_right : {n : ℕ} → n ≡ crc_of payload → n ≡ 0 → (record { answer = Ok LsfPending; queue = with_pending true q }, placed payload store LSF) ≡ lsf_pushed q payload store
   unfolding lsf_pushed pick
   lsf_right e z = rw (eq-eqb (crc_of payload) 0 (sym e ∙ z))
 
 module _ (n : ℕ) (q : StreamQueue) (payload store : List ℕ) where
-  pub payload_short : n ≤ IGNORED → not_pushed Ignored q store ≡ payload_pushed n q payload store
+  pub payload_short : n ≤ IGNORED → not_pushed (Ok Ignored) q store ≡ payload_pushed n q payload store
   unfolding payload_pushed pick
   payload_short h = rw (le-leb n IGNORED h)
 

@@ -14,12 +14,14 @@ use Rattle.room.specs.Room.{placed}
 use Rattle.room.proofs.Places.{placed-length}
 use Rattle.protocol.specs.declared.StreamFrame.{StreamFrame}
 use Rattle.crc.specs.Crc.{crc_of}
-use Rattle.kiss_layout.specs.declared.Decoded.{Decoded}
-use Rattle.kiss_layout.specs.declared.Decoded.TheVariants.{Payload}
+use Rattle.std.specs.Prelude.{Result, Ok, Err, ℕ}
+use Rattle.streams.specs.declared.StreamPush.{StreamPush}
+use Rattle.kiss_layout.specs.declared.PushError.{PushError}
+use Rattle.streams.specs.declared.StreamPush.TheVariants.{Queued, LsfPending, Ignored}
+use Rattle.kiss_layout.specs.declared.PushError.TheVariants.{MalformedKissFrame, WrongStore, OutOfBounds}
+use Rattle.kiss_layout.specs.declared.KissError.{KissError}
 use Rattle.kiss_layout.specs.Build.{stream_setup, stream_data, frame_of as built_frame}
 use Rattle.streams.specs.declared.StreamQueue.{StreamQueue}
-use Rattle.streams.specs.declared.StreamAnswer.{StreamAnswer}
-use Rattle.streams.specs.declared.StreamAnswer.TheVariants.{Queued, LsfPending, Ignored, MalformedKissFrame, WrongStore, OutOfBounds}
 use Rattle.streams.specs.declared.StreamPushed.{StreamPushed}
 use Rattle.streams.specs.declared.StreamReadAnswer.{StreamReadAnswer}
 use Rattle.streams.specs.declared.StreamReadAnswer.TheVariants.{Nothing, Lsf, Frame, WrongStore as NoStore, OutOfBounds as NoState}
@@ -44,7 +46,7 @@ module _ (frame : List ℕ) where
   stored_read : frame_of stored ≡ frame_in frame
   stored_read = frame_of_lem (frame_in frame) (payload_five (decoded_of frame).1 (payload_thirty frame)) (payload_sixteen (decoded_of frame).1 (payload_thirty frame))
 
-quiet_adds : {a : StreamAnswer} → Quiet a → (f : StreamFrame) → added_by a f ≡ []
+quiet_adds : {a : (Result StreamPush PushError)} → Quiet a → (f : StreamFrame) → added_by a f ≡ []
 quiet_adds ignored f = refl
 quiet_adds malformed f = refl
 quiet_adds wrong_store f = refl
@@ -153,13 +155,13 @@ module _ (x : Box) where
 
 -- ---- refusals, and frames that are ignored
 
-refused_quiet : (a : StreamAnswer) → push_number a ≢ 0 → 2 ≤ tag a
-refused_quiet Queued f = absurd (f refl)
-refused_quiet LsfPending f = absurd (f refl)
-refused_quiet Ignored f = omega arith
-refused_quiet MalformedKissFrame f = omega arith
-refused_quiet WrongStore f = omega arith
-refused_quiet OutOfBounds f = omega arith
+refused_quiet : (a : (Result StreamPush PushError)) → push_number a ≢ 0 → 2 ≤ tag a
+refused_quiet (Ok Queued) f = absurd (f refl)
+refused_quiet (Ok LsfPending) f = absurd (f refl)
+refused_quiet (Ok Ignored) f = omega arith
+refused_quiet (Err MalformedKissFrame) f = omega arith
+refused_quiet (Err WrongStore) f = omega arith
+refused_quiet (Err OutOfBounds) f = omega arith
 
 refused_silent : (a : StreamReadAnswer) → read_number a ≢ 0 → 2 ≤ read_tag a
 refused_silent Nothing f = omega arith
@@ -209,7 +211,7 @@ stored_is_read x s m p frame = by (outcome x frame)
     q : StreamQueue
     q = x.queue
 
-    by : {r : StreamPushed × List ℕ} → Pushes x frame r → r.0.answer ≡ Queued
+    by : {r : StreamPushed × List ℕ} → Pushes x frame r → r.0.answer ≡ (Ok Queued)
         → ((next_of (pushed_box x frame r)).answer ≡ Frame) × ((next_of (pushed_box x frame r)).frame ≡ frame_in frame)
     by (kept w) a = absurd (omega (arith, quiet_tag w, ap tag a))
     by (data_queued l t e) a =
@@ -224,20 +226,20 @@ stored_is_read x s m p frame = by (outcome x frame)
 -- ---- the LSF
 
 module _ (x : Box) (frame : List ℕ) where
-  lsf_comes : push_answer x frame ≡ LsfPending → lsf_waiting (after_push x frame) ≡ some (decoded_of frame).1
+  lsf_comes : push_answer x frame ≡ (Ok LsfPending) → lsf_waiting (after_push x frame) ≡ some (decoded_of frame).1
   unfolding lsf_waiting pick
   lsf_comes = by (outcome x frame)
     where
-      by : {r : StreamPushed × List ℕ} → Pushes x frame r → r.0.answer ≡ LsfPending → lsf_waiting (pushed_box x frame r) ≡ some (decoded_of frame).1
+      by : {r : StreamPushed × List ℕ} → Pushes x frame r → r.0.answer ≡ (Ok LsfPending) → lsf_waiting (pushed_box x frame r) ≡ some (decoded_of frame).1
       by (kept w) a = absurd (omega (arith, quiet_tag w, ap tag a))
       by (data_queued l t e) a = absurd (omega (arith, ap tag a))
       by (lsf_taken l t) a = ap some (lsf_there (decoded_of frame).1 x.store (payload_thirty frame) l)
 
-  lsf_stays : push_answer x frame ≢ LsfPending → lsf_waiting (after_push x frame) ≡ lsf_waiting x
+  lsf_stays : push_answer x frame ≢ (Ok LsfPending) → lsf_waiting (after_push x frame) ≡ lsf_waiting x
   unfolding lsf_waiting queued
   lsf_stays = by (outcome x frame)
     where
-      by : {r : StreamPushed × List ℕ} → Pushes x frame r → r.0.answer ≢ LsfPending → lsf_waiting (pushed_box x frame r) ≡ lsf_waiting x
+      by : {r : StreamPushed × List ℕ} → Pushes x frame r → r.0.answer ≢ (Ok LsfPending) → lsf_waiting (pushed_box x frame r) ≡ lsf_waiting x
       by (kept w) f = refl
       by (data_queued l t e) f =
           ap (λ (b : List ℕ). pick x.queue.pending (some b) none) (placed_lsf (stored frame) x.store x.queue.next (next_below x.queue t) (stored-length frame) l)
@@ -266,21 +268,21 @@ pub lsf_waits_until_read : LsfWaitsUntilRead
 lsf_waits_until_read x s = (lsf_comes x, lsf_stays x, lsf_goes x, lsf_left_lem x)
 
 -- past the tests, the answer to a frame that decodes to n bytes
-module _ (x : Box) (s : Sound x) (frame : List ℕ) {n : ℕ} (e : (decoded_of frame).0 ≡ Payload n) where
+module _ (x : Box) (s : Sound x) (frame : List ℕ) {n : ℕ} (e : (decoded_of frame).0 ≡ Ok n) where
   answer_by : {r : StreamPushed × List ℕ} → r ≡ payload_pushed n x.queue (decoded_of frame).1 x.store → push_answer x frame ≡ r.0.answer
   answer_by c =
-      ap (λ (r : StreamPushed × List ℕ). r.0.answer) (sym (c ∙ pushed-decoded x.queue frame x.store s.its_store s.its_state (decoded_of frame).1 refl (Payload n) e))
+      ap (λ (r : StreamPushed × List ℕ). r.0.answer) (sym (c ∙ pushed-decoded x.queue frame x.store s.its_store s.its_state (decoded_of frame).1 refl (Ok n) e))
 
   answer_data : IGNORED < n → n ≤ DATA → {r : StreamPushed × List ℕ} → r ≡ data_pushed x.queue (decoded_of frame).1 x.store → push_answer x frame ≡ r.0.answer
   answer_data h k c = answer_by (c ∙ payload_data n x.queue (decoded_of frame).1 x.store h k)
 
-  answer_lsf : DATA < n → crc_of (decoded_of frame).1 ≡ 0 → push_answer x frame ≡ LsfPending
+  answer_lsf : DATA < n → crc_of (decoded_of frame).1 ≡ 0 → push_answer x frame ≡ (Ok LsfPending)
   answer_lsf h c = answer_by (lsf_right x.queue (decoded_of frame).1 x.store refl c ∙ payload_lsf n x.queue (decoded_of frame).1 x.store h)
 
 pub full_stops_data_not_lsf : FullStopsDataNotLsf
 full_stops_data_not_lsf x s f frame n e = (λ h. by h (leb n IGNORED) refl, answer_lsf x s frame e)
   where
-    by : n ≤ DATA → (t : Bool) → leb n IGNORED ≡ t → push_answer x frame ≡ Ignored
+    by : n ≤ DATA → (t : Bool) → leb n IGNORED ≡ t → push_answer x frame ≡ (Ok Ignored)
     by h true k = answer_by x s frame e (payload_short n x.queue (decoded_of frame).1 x.store (leb-true n IGNORED k))
     by h false k = answer_data x s frame e (leb-false n IGNORED k) h (data_full x.queue (decoded_of frame).1 x.store f)
 
@@ -293,5 +295,5 @@ built_is_taken x s = (
       (answer_data x s b (data_count f ok) (omega arith) (omega arith) (data_roomy x.queue (decoded_of b).1 x.store room), data_frame f ok),
   λ lsf l c.
       let b = built_frame (stream_setup lsf) in let d = lsf_decoded lsf l in
-      (answer_lsf x s b (ap (λ (r : Decoded × List ℕ). r.0) d) (omega arith) (ap (λ (r : Decoded × List ℕ). crc_of r.1) d ∙ c), ap (λ (r : Decoded × List ℕ). r.1) d),
+      (answer_lsf x s b (ap (λ (r : Result ℕ KissError × List ℕ). r.0) d) (omega arith) (ap (λ (r : Result ℕ KissError × List ℕ). crc_of r.1) d ∙ c), ap (λ (r : Result ℕ KissError × List ℕ). r.1) d),
 )

@@ -11,14 +11,17 @@ use Rattle.choice.specs.Pick.{pick}
 use Rattle.room.specs.Room.{placed}
 use Rattle.crc.specs.Crc.{crc_of}
 use Rattle.kiss_layout.proofs.Unescaped.{room_length}
-use Rattle.kiss_layout.specs.declared.Decoded.{Decoded}
-use Rattle.kiss_layout.specs.declared.Decoded.TheVariants.{Payload, MalformedKissFrame as NoPayload}
+use Rattle.std.specs.Prelude.{Result, Ok, Err, ℕ}
+use Rattle.streams.specs.declared.StreamPush.{StreamPush}
+use Rattle.kiss_layout.specs.declared.PushError.{PushError}
+use Rattle.streams.specs.declared.StreamPush.TheVariants.{Ignored, Queued, LsfPending}
+use Rattle.kiss_layout.specs.declared.PushError.TheVariants.{MalformedKissFrame, WrongStore, OutOfBounds}
+use Rattle.kiss_layout.specs.declared.KissError.{KissError}
+use Rattle.kiss_layout.specs.declared.KissError.TheVariants.{MalformedKissFrame as NoPayload}
 use Rattle.kiss_layout.specs.Scan.{stretch, after_fends}
 use Rattle.kiss_layout.specs.Read.{content_in, payload_at, decoded}
 use Rattle.kiss_layout.specs.Stream.{stream_of}
 use Rattle.streams.specs.declared.StreamQueue.{StreamQueue}
-use Rattle.streams.specs.declared.StreamAnswer.{StreamAnswer}
-use Rattle.streams.specs.declared.StreamAnswer.TheVariants.{Queued, LsfPending, Ignored, MalformedKissFrame, WrongStore, OutOfBounds}
 use Rattle.streams.specs.declared.StreamPushed.{StreamPushed}
 use Rattle.streams.specs.declared.StreamReadAnswer.{StreamReadAnswer}
 use Rattle.streams.specs.declared.StreamReadAnswer.TheVariants.{Nothing, Lsf, Frame, WrongStore as NoStore, OutOfBounds as NoState}
@@ -46,33 +49,33 @@ payload_thirty frame = decoded-length frame (replicate 30 0)
 -- ---- a push
 
 -- answers that leave all as it was
-pub data Quiet : StreamAnswer → Type 0 where
-  ignored : Quiet Ignored
-  malformed : Quiet MalformedKissFrame
-  wrong_store : Quiet WrongStore
-  out_of_bounds : Quiet OutOfBounds
+pub data Quiet : Result StreamPush PushError → Type 0 where
+  ignored : Quiet (Ok Ignored)
+  malformed : Quiet (Err MalformedKissFrame)
+  wrong_store : Quiet (Err WrongStore)
+  out_of_bounds : Quiet (Err OutOfBounds)
 
 -- answers told apart
-abbrev pub tag : StreamAnswer → ℕ
-tag Queued = 0
-tag LsfPending = 1
-tag Ignored = 2
-tag MalformedKissFrame = 2
-tag WrongStore = 2
-tag OutOfBounds = 2
+abbrev pub tag : Result StreamPush PushError → ℕ
+tag (Ok Queued) = 0
+tag (Ok LsfPending) = 1
+tag (Ok Ignored) = 2
+tag (Err MalformedKissFrame) = 2
+tag (Err WrongStore) = 2
+tag (Err OutOfBounds) = 2
 
-pub quiet_tag : {a : StreamAnswer} → Quiet a → tag a ≡ 2
+pub quiet_tag : {a : (Result StreamPush PushError)} → Quiet a → tag a ≡ 2
 quiet_tag ignored = refl
 quiet_tag malformed = refl
 quiet_tag wrong_store = refl
 quiet_tag out_of_bounds = refl
 
 pub data Push (q : StreamQueue) (payload store : List ℕ) : StreamPushed × List ℕ → Type 0 where
-  kept : {a : StreamAnswer} → Quiet a → Push q payload store (not_pushed a q store)
+  kept : {a : (Result StreamPush PushError)} → Quiet a → Push q payload store (not_pushed a q store)
   data_queued : length store ≡ STORE → sound_queue q ≡ true → q.full ≡ false
-      → Push q payload store (record { answer = Queued; queue = queued q }, placed (bytes_of (stream_of payload)) store (FRAME * q.next))
+      → Push q payload store (record { answer = Ok Queued; queue = queued q }, placed (bytes_of (stream_of payload)) store (FRAME * q.next))
   lsf_taken : length store ≡ STORE → sound_queue q ≡ true
-      → Push q payload store (record { answer = LsfPending; queue = with_pending true q }, placed payload store LSF)
+      → Push q payload store (record { answer = Ok LsfPending; queue = with_pending true q }, placed payload store LSF)
 
 pub push_outcome : (q : StreamQueue) (frame store : List ℕ) → Push q (decoded_of frame).1 store (pushed q frame store)
 unfolding pushed payload_pushed data_pushed lsf_pushed pick
@@ -84,33 +87,33 @@ push_outcome q frame store = tested (eqb (length store) STORE) refl
     data-pushed : length store ≡ STORE → sound_queue q ≡ true → Push q p store (data_pushed q p store)
     data-pushed l s = by q.full refl
       where
-        by : (t : Bool) → q.full ≡ t → Push q p store (pick t (not_pushed Ignored q store) (record { answer = Queued; queue = queued q }, placed (bytes_of (stream_of p)) store (FRAME * q.next)))
+        by : (t : Bool) → q.full ≡ t → Push q p store (pick t (not_pushed (Ok Ignored) q store) (record { answer = Ok Queued; queue = queued q }, placed (bytes_of (stream_of p)) store (FRAME * q.next)))
         by true e = kept ignored
         by false e = data_queued l s e
 
     lsf-pushed : length store ≡ STORE → sound_queue q ≡ true → Push q p store (lsf_pushed q p store)
     lsf-pushed l s = by (eqb (crc_of p) 0)
       where
-        by : (t : Bool) → Push q p store (pick t (record { answer = LsfPending; queue = with_pending true q }, placed p store LSF) (not_pushed Ignored q store))
+        by : (t : Bool) → Push q p store (pick t (record { answer = Ok LsfPending; queue = with_pending true q }, placed p store LSF) (not_pushed (Ok Ignored) q store))
         by true = lsf_taken l s
         by false = kept ignored
 
     counted : length store ≡ STORE → sound_queue q ≡ true → (a b : Bool)
-        → Push q p store (pick a (not_pushed Ignored q store) (pick b (data_pushed q p store) (lsf_pushed q p store)))
+        → Push q p store (pick a (not_pushed (Ok Ignored) q store) (pick b (data_pushed q p store) (lsf_pushed q p store)))
     counted l s true b = kept ignored
     counted l s false true = data-pushed l s
     counted l s false false = lsf-pushed l s
 
-    answered : length store ≡ STORE → sound_queue q ≡ true → (d : Decoded) → Push q p store (decoded_pushed d q p store)
-    answered l s NoPayload = kept malformed
-    answered l s (Payload n) = counted l s (leb n IGNORED) (leb n DATA)
+    answered : length store ≡ STORE → sound_queue q ≡ true → (d : (Result ℕ KissError)) → Push q p store (decoded_pushed d q p store)
+    answered l s (Err NoPayload) = kept malformed
+    answered l s (Ok n) = counted l s (leb n IGNORED) (leb n DATA)
 
-    bounded : length store ≡ STORE → (t : Bool) → sound_queue q ≡ t → Push q p store (pick t (decoded_pushed (decoded_of frame).0 q p store) (not_pushed OutOfBounds q store))
+    bounded : length store ≡ STORE → (t : Bool) → sound_queue q ≡ t → Push q p store (pick t (decoded_pushed (decoded_of frame).0 q p store) (not_pushed (Err OutOfBounds) q store))
     bounded l true s = answered l s (decoded_of frame).0
     bounded l false s = kept out_of_bounds
 
     tested : (t : Bool) → eqb (length store) STORE ≡ t
-        → Push q p store (pick t (pick (sound_queue q) (decoded_pushed (decoded_of frame).0 q p store) (not_pushed OutOfBounds q store)) (not_pushed WrongStore q store))
+        → Push q p store (pick t (pick (sound_queue q) (decoded_pushed (decoded_of frame).0 q p store) (not_pushed (Err OutOfBounds) q store)) (not_pushed (Err WrongStore) q store))
     tested true e = bounded (eqb-true (length store) STORE e) (sound_queue q) refl
     tested false e = kept wrong_store
 

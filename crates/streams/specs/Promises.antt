@@ -1,17 +1,18 @@
 -- What is promised of the stream queue over several calls, from document 01. Each is proved in proofs/Kept.antt. Assumes nothing.
-use Rattle.std.specs.Prelude.{ℕ, zero, suc, ◌+◌, ◌-◌, ◌%◌, ◌≤◌, ◌<◌, true, false, ◌≢◌, ◌≡◌, List, [], ◌∷◌, ◌++◌, length}
+use Rattle.std.specs.Prelude.{ℕ, zero, suc, ◌+◌, ◌-◌, ◌%◌, ◌≤◌, ◌<◌, true, false, ◌≢◌, ◌≡◌, List, [], ◌∷◌, ◌++◌, length, Result, Ok, Err}
 use Rattle.std.proofs.Math.Option.{Option, none, some}
 use Rattle.choice.specs.Pick.{pick}
 use Rattle.crc.specs.Crc.{crc_of}
 use Rattle.protocol.specs.declared.StreamFrame.{StreamFrame}
 use Rattle.protocol.specs.Lsf.{part}
-use Rattle.kiss_layout.specs.declared.Decoded.TheVariants.{Payload}
+use Rattle.streams.specs.declared.StreamPush.{StreamPush}
+use Rattle.kiss_layout.specs.declared.PushError.{PushError}
+use Rattle.streams.specs.declared.StreamPush.TheVariants.{Ignored, Queued, LsfPending}
+use Rattle.kiss_layout.specs.declared.PushError.TheVariants.{MalformedKissFrame, WrongStore, OutOfBounds}
 use Rattle.kiss_layout.specs.Stream.{stream_of}
 use Rattle.kiss_layout.specs.Build.{stream_setup, stream_data, frame_of as built_frame}
 use Rattle.kiss_layout.specs.Promises.{Accepted}
 use Rattle.streams.specs.declared.StreamQueue.{StreamQueue}
-use Rattle.streams.specs.declared.StreamAnswer.{StreamAnswer}
-use Rattle.streams.specs.declared.StreamAnswer.TheVariants.{Queued, LsfPending, Ignored, MalformedKissFrame, WrongStore, OutOfBounds}
 use Rattle.streams.specs.declared.StreamReadAnswer.{StreamReadAnswer}
 use Rattle.streams.specs.declared.StreamReadAnswer.TheVariants.{Nothing, Lsf, Frame, WrongStore as NoStore, OutOfBounds as NoState}
 use Rattle.streams.specs.declared.StreamRead.{StreamRead}
@@ -25,7 +26,7 @@ pub record Box : Type 0 where
 abbrev pub new_box : List ℕ → Box
 new_box store = record { queue = new_queue; store = store }
 
-abbrev pub push_answer : Box → List ℕ → StreamAnswer
+abbrev pub push_answer : Box → List ℕ → Result StreamPush PushError
 push_answer x frame = (pushed x.queue frame x.store).0.answer
 
 abbrev pub after_push : Box → List ℕ → Box
@@ -44,7 +45,7 @@ RefusedKeepsAll =
 
 -- an ignored frame leaves no trace, and a read that answers nothing neither
 abbrev pub IgnoredKeepsAll : Type 0
-IgnoredKeepsAll = (x : Box) → ((frame : List ℕ) → push_answer x frame ≡ Ignored → after_push x frame ≡ x) × ((next_of x).answer ≡ Nothing → after_read x ≡ x)
+IgnoredKeepsAll = (x : Box) → ((frame : List ℕ) → push_answer x frame ≡ (Ok Ignored) → after_push x frame ≡ x) × ((next_of x).answer ≡ Nothing → after_read x ≡ x)
 
 -- ---- the bounds
 
@@ -70,7 +71,7 @@ frame_in frame = stream_of (decoded_of frame).1
 abbrev pub StoredIsRead : Type 0
 StoredIsRead =
     (x : Box) → Sound x → empty_queue x.queue ≡ true → x.queue.pending ≡ false
-    → (frame : List ℕ) → push_answer x frame ≡ Queued → ((next_of (after_push x frame)).answer ≡ Frame) × ((next_of (after_push x frame)).frame ≡ frame_in frame)
+    → (frame : List ℕ) → push_answer x frame ≡ (Ok Queued) → ((next_of (after_push x frame)).answer ≡ Frame) × ((next_of (after_push x frame)).frame ≡ frame_in frame)
 
 -- how many frames wait, and these, first to last
 unfoldable pub count : StreamQueue → ℕ
@@ -84,13 +85,13 @@ unfoldable pub waiting : Box → List StreamFrame
 waiting x = frames_from (count x.queue) x.queue.curr x.store
 
 -- the frames that a push adds, and those that a read gives: one or none
-abbrev pub added_by : StreamAnswer → StreamFrame → List StreamFrame
-added_by Queued f = f ∷ []
-added_by LsfPending f = []
-added_by Ignored f = []
-added_by MalformedKissFrame f = []
-added_by WrongStore f = []
-added_by OutOfBounds f = []
+abbrev pub added_by : Result StreamPush PushError → StreamFrame → List StreamFrame
+added_by (Ok Queued) f = f ∷ []
+added_by (Ok LsfPending) f = []
+added_by (Ok Ignored) f = []
+added_by (Err MalformedKissFrame) f = []
+added_by (Err WrongStore) f = []
+added_by (Err OutOfBounds) f = []
 
 abbrev pub given_by : StreamReadAnswer → StreamFrame → List StreamFrame
 given_by Nothing f = []
@@ -120,16 +121,16 @@ lsf_waiting x = pick x.queue.pending (some (part LSF 30 x.store)) none
 -- an LSF that was taken waits in place of one that waited before; other frames leave it; it is read once, and only while a frame waits
 abbrev pub LsfWaitsUntilRead : Type 0
 LsfWaitsUntilRead =
-    (x : Box) → Sound x → ((frame : List ℕ) → push_answer x frame ≡ LsfPending → lsf_waiting (after_push x frame) ≡ some (decoded_of frame).1)
-    × ((frame : List ℕ) → push_answer x frame ≢ LsfPending → lsf_waiting (after_push x frame) ≡ lsf_waiting x)
+    (x : Box) → Sound x → ((frame : List ℕ) → push_answer x frame ≡ (Ok LsfPending) → lsf_waiting (after_push x frame) ≡ some (decoded_of frame).1)
+    × ((frame : List ℕ) → push_answer x frame ≢ (Ok LsfPending) → lsf_waiting (after_push x frame) ≡ lsf_waiting x)
     × ((next_of x).answer ≡ Lsf → (lsf_waiting x ≡ some (next_of x).lsf.0) × (lsf_waiting (after_read x) ≡ none) × (empty_queue x.queue ≡ false))
     × ((next_of x).answer ≢ Lsf → lsf_waiting (after_read x) ≡ lsf_waiting x)
 
 -- a full queue stops data, not an LSF
 abbrev pub FullStopsDataNotLsf : Type 0
 FullStopsDataNotLsf =
-    (x : Box) → Sound x → x.queue.full ≡ true → (frame : List ℕ) (n : ℕ) → (decoded_of frame).0 ≡ Payload n
-    → (n ≤ DATA → push_answer x frame ≡ Ignored) × (DATA < n → crc_of (decoded_of frame).1 ≡ 0 → push_answer x frame ≡ LsfPending)
+    (x : Box) → Sound x → x.queue.full ≡ true → (frame : List ℕ) (n : ℕ) → (decoded_of frame).0 ≡ Ok n
+    → (n ≤ DATA → push_answer x frame ≡ (Ok Ignored)) × (DATA < n → crc_of (decoded_of frame).1 ≡ 0 → push_answer x frame ≡ (Ok LsfPending))
 
 -- ---- what a builder wrote
 
@@ -138,6 +139,6 @@ abbrev pub BuiltIsTaken : Type 0
 BuiltIsTaken =
     (x : Box) → Sound x
     → ((f : StreamFrame) → Accepted (stream_data f) → x.queue.full ≡ false
-    → (push_answer x (built_frame (stream_data f)) ≡ Queued) × (frame_in (built_frame (stream_data f)) ≡ f))
+    → (push_answer x (built_frame (stream_data f)) ≡ (Ok Queued)) × (frame_in (built_frame (stream_data f)) ≡ f))
     × ((lsf : List ℕ) → length lsf ≡ 30 → crc_of lsf ≡ 0
-    → (push_answer x (built_frame (stream_setup lsf)) ≡ LsfPending) × ((decoded_of (built_frame (stream_setup lsf))).1 ≡ lsf))
+    → (push_answer x (built_frame (stream_setup lsf)) ≡ (Ok LsfPending)) × ((decoded_of (built_frame (stream_setup lsf))).1 ≡ lsf))

@@ -1,19 +1,21 @@
 -- The stream queue: eight frames in a ring and an LSF that waits, in a record and a store of 230 bytes, and what each call makes of them, from document 01 under
 -- "The TNC", "Answer numbers" and "Bounds for 8". Assumes nothing.
-use Rattle.std.specs.Prelude.{ℕ, ◌+◌, ◌*◌, ◌%◌, Bool, true, false, List, ltb, leb, eqb, length, replicate}
+use Rattle.std.specs.Prelude.{ℕ, ◌+◌, ◌*◌, ◌%◌, Bool, true, false, List, ltb, leb, eqb, length, replicate, Result, Ok, Err}
 use Rattle.choice.specs.Pick.{pick, and}
 use Rattle.room.specs.Room.{placed}
 use Rattle.crc.specs.Crc.{crc_of}
 use Rattle.protocol.specs.declared.lsf.LsfFrame.{LsfFrame}
 use Rattle.protocol.specs.declared.StreamFrame.{StreamFrame}
 use Rattle.protocol.specs.Lsf.{part}
-use Rattle.kiss_layout.specs.declared.Decoded.{Decoded}
-use Rattle.kiss_layout.specs.declared.Decoded.TheVariants.{Payload, MalformedKissFrame as NoPayload}
+use Rattle.streams.specs.declared.StreamPush.{StreamPush}
+use Rattle.kiss_layout.specs.declared.PushError.{PushError}
+use Rattle.streams.specs.declared.StreamPush.TheVariants.{Ignored, Queued, LsfPending}
+use Rattle.kiss_layout.specs.declared.KissError.{KissError}
+use Rattle.kiss_layout.specs.declared.KissError.TheVariants.{MalformedKissFrame as NoPayload}
+use Rattle.kiss_layout.specs.declared.PushError.TheVariants.{MalformedKissFrame, OutOfBounds, WrongStore}
 use Rattle.kiss_layout.specs.Read.{decoded}
 use Rattle.kiss_layout.specs.Stream.{stream_of}
 use Rattle.streams.specs.declared.StreamQueue.{StreamQueue}
-use Rattle.streams.specs.declared.StreamAnswer.{StreamAnswer}
-use Rattle.streams.specs.declared.StreamAnswer.TheVariants.{Queued, LsfPending, Ignored, MalformedKissFrame, WrongStore, OutOfBounds}
 use Rattle.streams.specs.declared.StreamPushed.{StreamPushed}
 use Rattle.streams.specs.declared.StreamReadAnswer.{StreamReadAnswer}
 use Rattle.streams.specs.declared.StreamReadAnswer.TheVariants.{Nothing, Lsf, Frame, WrongStore as NoStore, OutOfBounds as NoState}
@@ -62,19 +64,19 @@ with_pending p q = record { next = q.next; curr = q.curr; full = q.full; pending
 -- ---- push
 
 -- the frame leaves no trace
-abbrev pub not_pushed : StreamAnswer → StreamQueue → List ℕ → StreamPushed × List ℕ
+abbrev pub not_pushed : Result StreamPush PushError → StreamQueue → List ℕ → StreamPushed × List ℕ
 not_pushed answer q store = (record { answer = answer; queue = q }, store)
 
 -- data is queued, and ignored where the queue is full; neither its CRC nor its LICH index is checked
 unfoldable pub data_pushed : StreamQueue → List ℕ → List ℕ → StreamPushed × List ℕ
 data_pushed q payload store =
-    pick q.full (not_pushed Ignored q store)
-    (record { answer = Queued; queue = queued q }, placed (bytes_of (stream_of payload)) store (FRAME * q.next))
+    pick q.full (not_pushed (Ok Ignored) q store)
+    (record { answer = Ok Queued; queue = queued q }, placed (bytes_of (stream_of payload)) store (FRAME * q.next))
 
 -- an LSF whose CRC is not 0 is ignored; else it waits, in place of one that waited before, also where the queue is full
 unfoldable pub lsf_pushed : StreamQueue → List ℕ → List ℕ → StreamPushed × List ℕ
 lsf_pushed q payload store =
-    pick (eqb (crc_of payload) 0) (record { answer = LsfPending; queue = with_pending true q }, placed payload store LSF) (not_pushed Ignored q store)
+    pick (eqb (crc_of payload) 0) (record { answer = Ok LsfPending; queue = with_pending true q }, placed payload store LSF) (not_pushed (Ok Ignored) q store)
 
 -- a payload of 0 to 25 bytes is ignored, 26 to 29 is data, 30 is an LSF
 abbrev pub IGNORED : ℕ
@@ -84,21 +86,21 @@ abbrev pub DATA : ℕ
 DATA = 29
 
 unfoldable pub payload_pushed : ℕ → StreamQueue → List ℕ → List ℕ → StreamPushed × List ℕ
-payload_pushed n q payload store = pick (leb n IGNORED) (not_pushed Ignored q store) (pick (leb n DATA) (data_pushed q payload store) (lsf_pushed q payload store))
+payload_pushed n q payload store = pick (leb n IGNORED) (not_pushed (Ok Ignored) q store) (pick (leb n DATA) (data_pushed q payload store) (lsf_pushed q payload store))
 
-abbrev pub decoded_pushed : Decoded → StreamQueue → List ℕ → List ℕ → StreamPushed × List ℕ
-decoded_pushed NoPayload q payload store = not_pushed MalformedKissFrame q store
-decoded_pushed (Payload n) q payload store = payload_pushed n q payload store
+abbrev pub decoded_pushed : Result ℕ KissError → StreamQueue → List ℕ → List ℕ → StreamPushed × List ℕ
+decoded_pushed (Err NoPayload) q payload store = not_pushed (Err MalformedKissFrame) q store
+decoded_pushed (Ok n) q payload store = payload_pushed n q payload store
 
 -- a frame decoded into a room of 30 bytes that is first all zero: longer payloads are cut to 30
-abbrev pub decoded_of : List ℕ → Decoded × List ℕ
+abbrev pub decoded_of : List ℕ → Result ℕ KissError × List ℕ
 decoded_of frame = decoded frame (replicate 30 0)
 
 unfoldable pub pushed : StreamQueue → List ℕ → List ℕ → StreamPushed × List ℕ
 pushed q frame store =
     pick (eqb (length store) STORE)
-    (pick (sound_queue q) (decoded_pushed (decoded_of frame).0 q (decoded_of frame).1 store) (not_pushed OutOfBounds q store))
-    (not_pushed WrongStore q store)
+    (pick (sound_queue q) (decoded_pushed (decoded_of frame).0 q (decoded_of frame).1 store) (not_pushed (Err OutOfBounds) q store))
+    (not_pushed (Err WrongStore) q store)
 
 -- ---- read_next
 
@@ -126,13 +128,13 @@ read_next q store = pick (eqb (length store) STORE) (pick (sound_queue q) (next_
 
 -- ---- document 01's numbers for the answers
 
-abbrev pub push_number : StreamAnswer → ℕ
-push_number Queued = 0
-push_number LsfPending = 0
-push_number Ignored = 0
-push_number MalformedKissFrame = 3
-push_number WrongStore = 7
-push_number OutOfBounds = 8
+abbrev pub push_number : Result StreamPush PushError → ℕ
+push_number (Ok Queued) = 0
+push_number (Ok LsfPending) = 0
+push_number (Ok Ignored) = 0
+push_number (Err MalformedKissFrame) = 3
+push_number (Err WrongStore) = 7
+push_number (Err OutOfBounds) = 8
 
 abbrev pub read_number : StreamReadAnswer → ℕ
 read_number Nothing = 0

@@ -22,7 +22,7 @@ use Rattle.state.specs.declared.Reception.{Reception}
 use Rattle.state.specs.declared.Reception.TheVariants.{Nothing, Acquiring as Segments, Stream as InStream, Packet as InPacket}
 use Rattle.state.specs.State.{reception_of}
 use Rattle.radio.specs.declared.Radio.{Radio}
-use Rattle.radio.specs.declared.AirAnswer.TheVariants.{Done}
+use Rattle.std.specs.Prelude.{Ok}
 use Rattle.radio.specs.declared.Heard.{Heard}
 use Rattle.radio.specs.Radio.{sound_radio, air_number}
 use Rattle.air_lsf.specs.Begun.{begun, lsf_heard}
@@ -44,16 +44,16 @@ unfolding Fair
 begun_fair Packet x bytes n = absurd (n refl)
 begun_fair Stream x bytes n = absurd (n refl)
 
-collected-done : (k : Reception) (r : Radio) (index : ℕ) (payload rx : List ℕ) → (collected_in k r index payload rx).0.answer ≡ Done
+collected-done : (k : Reception) (r : Radio) (index : ℕ) (payload rx : List ℕ) → (collected_in k r index payload rx).0.answer ≡ (Ok tt)
 unfolding collected_after
 collected-done Nothing r index payload rx = refl
 collected-done (Segments mask) r index payload rx = refl
 collected-done (InStream expected) r index payload rx = refl
 collected-done (InPacket count) r index payload rx =
-    pick_all (λ (h : Heard × List ℕ). h.0.answer ≡ Done) (eqb index count) _ _
-    (λ t. pick_all (λ (h : Heard × List ℕ). h.0.answer ≡ Done) (ltb index 32) _ _ (λ u. refl) (λ u. refl)) (λ t. refl)
+    pick_all (λ (h : Heard × List ℕ). h.0.answer ≡ (Ok tt)) (eqb index count) _ _
+    (λ t. pick_all (λ (h : Heard × List ℕ). h.0.answer ≡ (Ok tt)) (ltb index 32) _ _ (λ u. refl) (λ u. refl)) (λ t. refl)
 
-finished-done : (k : Reception) (r : Radio) (len : ℕ) (payload rx out : List ℕ) → (finished_in k r len payload rx out).0.answer ≡ Done
+finished-done : (k : Reception) (r : Radio) (len : ℕ) (payload rx out : List ℕ) → (finished_in k r len payload rx out).0.answer ≡ (Ok tt)
 unfolding finished_after
 finished-done Nothing r len payload rx out = refl
 finished-done (Segments mask) r len payload rx out = refl

@@ -8,13 +8,14 @@ use Rattle.choice.specs.Pick.{pick}
 use Rattle.room.specs.Room.{placed}
 use Rattle.state.specs.declared.State.TheVariants.{RxPacket}
 use Rattle.radio.specs.declared.Radio.{Radio}
-use Rattle.radio.specs.declared.AirAnswer.TheVariants.{WrongStore}
+use Rattle.std.specs.Prelude.{Err}
+use Rattle.radio.specs.declared.AirError.TheVariants.{WrongStore}
 use Rattle.radio.specs.declared.Heard.{Heard}
 use Rattle.radio.specs.Radio.{RX, answered, turned}
 use Rattle.tnc_air.specs.Collected.{idle, place_of, collected_after, collected_at}
 
 module _ (r : Radio) (count index : ℕ) (payload rx : List ℕ) where
-  pub wrong_store : {x : Heard} → x ≡ answered WrongStore r → (length rx ≡ RX → ⊥) → (x, rx) ≡ collected_at r count index payload rx
+  pub wrong_store : {x : Heard} → x ≡ answered (Err WrongStore) r → (length rx ≡ RX → ⊥) → (x, rx) ≡ collected_at r count index payload rx
   unfolding collected_at pick
   wrong_store e n = rw (ne_eqb (length rx) RX n) (λ t. (e t, rx))
 

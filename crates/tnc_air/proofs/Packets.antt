@@ -13,7 +13,8 @@ use Rattle.state.specs.contracts.Reception.{the_type}
 use Rattle.state.proofs.Bounds.{count_bound}
 use Rattle.state.specs.State.{reception_of}
 use Rattle.radio.specs.declared.Radio.{Radio}
-use Rattle.radio.specs.declared.AirAnswer.TheVariants.{OutOfRange as TooLarge}
+use Rattle.std.specs.Prelude.{Err}
+use Rattle.radio.specs.declared.AirError.TheVariants.{OutOfRange as TooLarge}
 use Rattle.radio.specs.declared.Heard.{Heard}
 use Rattle.radio.specs.Radio.{sound_radio, answered}
 use Rattle.tnc_air.specs.Collected.{idle}
@@ -38,7 +39,7 @@ none-finished (InStream expected) r len payload rx out h = refl
 none-finished (InPacket count) r len payload rx out h = absurd (miss (0 ∷ 1 ∷ 2 ∷ []) 3 tt h)
 
 module _ (r : Radio) (len : ℕ) (payload rx out : List ℕ) where
-  pub too_long : {x : Heard} → x ≡ answered TooLarge r → 25 < len → (x, rx, out) ≡ finished r len payload rx out
+  pub too_long : {x : Heard} → x ≡ answered (Err TooLarge) r → 25 < len → (x, rx, out) ≡ finished r len payload rx out
   unfolding finished pick
   too_long e n = rw (lt-ltb 25 len n) (λ t. (e t, rx, out))
 

@@ -14,7 +14,7 @@ use Rattle.kiss_layout.specs.Build.{full_packet, frame_of}
 use Rattle.state.specs.declared.State.TheVariants.{RxPacket}
 use Rattle.state.specs.declared.Reception.{Reception}
 use Rattle.state.specs.State.{transmits, reception_of}
-use Rattle.radio.specs.declared.AirAnswer.TheVariants.{Done}
+use Rattle.std.specs.Prelude.{Ok}
 use Rattle.radio.specs.declared.Heard.{Heard}
 use Rattle.radio.specs.Radio.{answered}
 use Rattle.tnc_air.specs.Collected.{place_of}
@@ -62,7 +62,7 @@ module _ (x : Box) (bytes got : List ℕ) (k : ℕ) (h : Holding x bytes got k) 
     frame = packet (record { payload = p; counter = Counted k })
 
     grown : Heard × List ℕ
-    grown = (answered Done (record { state = RxPacket (k + 1); outgoing = x.radio.outgoing }), placed p x.rx (place_of k))
+    grown = (answered (Ok tt) (record { state = RxPacket (k + 1); outgoing = x.radio.outgoing }), placed p x.rx (place_of k))
 
     came : heard_at x frame ≡ (grown.0, grown.1, x.out)
     unfolding grown

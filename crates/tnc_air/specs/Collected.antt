@@ -1,10 +1,10 @@
 -- What a packet's frame that is not its last does where a packet is being received, from document 01's "From the air" and its answer 7. Assumes nothing.
-use Rattle.std.specs.Prelude.{ℕ, ◌+◌, ◌*◌, List, eqb, ltb, length}
+use Rattle.std.specs.Prelude.{ℕ, ◌+◌, ◌*◌, List, eqb, ltb, length, Err}
 use Rattle.choice.specs.Pick.{pick}
 use Rattle.room.specs.Room.{placed}
 use Rattle.state.specs.declared.State.TheVariants.{Idle, RxPacket}
 use Rattle.radio.specs.declared.Radio.{Radio}
-use Rattle.radio.specs.declared.AirAnswer.TheVariants.{WrongStore}
+use Rattle.radio.specs.declared.AirError.TheVariants.{WrongStore}
 use Rattle.radio.specs.declared.Heard.{Heard}
 use Rattle.radio.specs.Radio.{RX, answered, turned}
 
@@ -24,4 +24,4 @@ collected_after r count index payload rx =
 
 -- and a store of another length is 7
 unfoldable pub collected_at : Radio → ℕ → ℕ → List ℕ → List ℕ → Heard × List ℕ
-collected_at r count index payload rx = pick (eqb (length rx) RX) (collected_after r count index payload rx) (answered WrongStore r, rx)
+collected_at r count index payload rx = pick (eqb (length rx) RX) (collected_after r count index payload rx) (answered (Err WrongStore) r, rx)

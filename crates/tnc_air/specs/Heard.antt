@@ -1,5 +1,5 @@
 -- What the TNC does with a packet frame from the air, from document 01's "From the air" and "Answer numbers". Assumes nothing.
-use Rattle.std.specs.Prelude.{ℕ, ◌+◌, ◌*◌, List, ltb, take}
+use Rattle.std.specs.Prelude.{ℕ, ◌+◌, ◌*◌, List, ltb, take, Err}
 use Rattle.choice.specs.Pick.{pick}
 use Rattle.room.specs.Room.{placed}
 use Rattle.protocol.specs.Lsf.{part}
@@ -12,7 +12,7 @@ use Rattle.state.specs.declared.Reception.{Reception}
 use Rattle.state.specs.declared.Reception.TheVariants.{Nothing, Acquiring as Segments, Stream as InStream, Packet as InPacket}
 use Rattle.state.specs.State.{reception_of}
 use Rattle.radio.specs.declared.Radio.{Radio}
-use Rattle.radio.specs.declared.AirAnswer.TheVariants.{OutOfRange as TooLarge}
+use Rattle.radio.specs.declared.AirError.TheVariants.{OutOfRange as TooLarge}
 use Rattle.radio.specs.declared.Heard.{Heard}
 use Rattle.radio.specs.Radio.{answered, to_host, unless_sending}
 use Rattle.tnc_air.specs.Collected.{idle, place_of, collected_after}
@@ -47,7 +47,7 @@ finished_in (InPacket count) r len payload rx out = finished_after count len pay
 
 -- a final length over 25 is 6, in every state that hears
 unfoldable pub finished : Radio → ℕ → List ℕ → List ℕ → List ℕ → Heard × List ℕ × List ℕ
-finished r len payload rx out = pick (ltb 25 len) (answered TooLarge r, rx, out) (finished_in (reception_of r.state) r len payload rx out)
+finished r len payload rx out = pick (ltb 25 len) (answered (Err TooLarge) r, rx, out) (finished_in (reception_of r.state) r len payload rx out)
 
 abbrev pub counted : PacketFrameCounter → Radio → List ℕ → List ℕ → List ℕ → Heard × List ℕ × List ℕ
 counted (Counted index) r payload rx out = ((collected r index payload rx).0, (collected r index payload rx).1, out)

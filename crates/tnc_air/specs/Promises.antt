@@ -1,6 +1,6 @@
 -- What is promised of frames from the air, from document 01. Each is proved in proofs/Kept.antt, the last in proofs/Rebuilt.antt. Assumes nothing.
 use Prim.{Unit}
-use Rattle.std.specs.Prelude.{ℕ, ◌+◌, ◌≤◌, true, ◌≢◌, ◌≡◌, List, [], ◌∷◌, ◌++◌, length, take}
+use Rattle.std.specs.Prelude.{ℕ, ◌+◌, ◌≤◌, true, ◌≢◌, ◌≡◌, List, [], ◌∷◌, ◌++◌, length, take, Ok}
 use Rattle.protocol.specs.Lsf.{field_of, mode_bits}
 use Rattle.protocol.specs.Kinds.{mode_of}
 use Rattle.protocol.specs.declared.PacketFrame.{PacketFrame}
@@ -10,7 +10,6 @@ use Rattle.kiss_layout.specs.Build.{full_packet, stream_setup, frame_of}
 use Rattle.outgoing.specs.Message.{left}
 use Rattle.state.specs.declared.State.TheVariants.{Idle, RxStream, RxPacket}
 use Rattle.state.specs.State.{transmits}
-use Rattle.radio.specs.declared.AirAnswer.TheVariants.{Done}
 use Rattle.radio.specs.declared.Heard.{Heard}
 use Rattle.radio.specs.Radio.{answered, air_number}
 use Rattle.radio.specs.Box.{Box, left_by, Sound, Receiving}
@@ -40,7 +39,7 @@ RefusedKeepsAll = (x : Box) (f : AirFrame) → air_number (heard_at x f).0.answe
 
 -- while PTT is on every frame, one out of range too, is answered 0 and changes nothing
 abbrev pub SendingHearsNothing : Type 0
-SendingHearsNothing = (x : Box) (f : AirFrame) → Sound x → transmits x.radio.state ≡ true → heard_at x f ≡ (answered Done x.radio, x.rx, x.out)
+SendingHearsNothing = (x : Box) (f : AirFrame) → Sound x → transmits x.radio.state ≡ true → heard_at x f ≡ (answered (Ok tt) x.radio, x.rx, x.out)
 
 -- a sound box stays sound
 abbrev pub SoundStaysSound : Type 0

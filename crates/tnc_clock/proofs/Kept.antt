@@ -7,8 +7,9 @@ use lib.Dec.{leb}
 use borrow.Author.Tests.{leb-true}
 use Rattle.choice.specs.Pick.{pick_all, and_fst, and_snd, and_both}
 use Rattle.channel.specs.declared.Channel.{Channel}
-use Rattle.channel.specs.declared.ChannelAnswer.{ChannelAnswer}
-use Rattle.channel.specs.declared.ChannelAnswer.TheVariants.{Done, OutOfRange, OutOfBounds as NotSet}
+use Rattle.std.specs.Prelude.{Result, Ok, Err}
+use Rattle.channel.specs.declared.ChannelError.{ChannelError}
+use Rattle.channel.specs.declared.ChannelError.TheVariants.{OutOfRange, OutOfBounds as NotSet}
 use Rattle.channel.specs.Access.{sound_channel, clock_set, set_number}
 use Rattle.channel.proofs.Kept as channels
 use Rattle.channel.proofs.Bounds.{clock_bound}
@@ -34,10 +35,10 @@ its_state : (t : Tnc) → sound_tnc t ≡ true → sound_state t.radio.state ≡
 unfolding sound_radio
 its_state t e = and_fst _ _ (parts t e).its_radio
 
-clock_sound : (a : ChannelAnswer) (t : Tnc) (c : Channel) (n : ℕ) → sound_tnc t ≡ true → sound_channel c ≡ true → BothSound (on_clock a t c n)
-clock_sound Done t c n e s = record { its_tnc = state_sound t (time_reached t.radio.state n) e (states.sound_at_time t.radio.state n (its_state t e)); its_channel = s }
-clock_sound OutOfRange t c n e s = record { its_tnc = e; its_channel = s }
-clock_sound NotSet t c n e s = record { its_tnc = e; its_channel = s }
+clock_sound : (a : (Result (Unit {0}) ChannelError)) (t : Tnc) (c : Channel) (n : ℕ) → sound_tnc t ≡ true → sound_channel c ≡ true → BothSound (on_clock a t c n)
+clock_sound (Ok tt) t c n e s = record { its_tnc = state_sound t (time_reached t.radio.state n) e (states.sound_at_time t.radio.state n (its_state t e)); its_channel = s }
+clock_sound (Err OutOfRange) t c n e s = record { its_tnc = e; its_channel = s }
+clock_sound (Err NotSet) t c n e s = record { its_tnc = e; its_channel = s }
 
 now_sound : (t : Tnc) (c : Channel) (n : ℕ) → sound_tnc t ≡ true → sound_channel c ≡ true → BothSound (now_set t c n)
 unfolding now_set
@@ -48,7 +49,7 @@ now_sound t c n e s =
 end_sound : (t : Tnc) (c : Channel) (n : ℕ) → sound_tnc t ≡ true → sound_channel c ≡ true → BothSound (end_time_set t c n)
 unfolding end_time_set
 end_sound t c n e s =
-    let same : (a : ChannelAnswer) → BothSound (timed a t c) = λ a. record { its_tnc = e; its_channel = s } in
+    let same : (a : (Result (Unit {0}) ChannelError)) → BothSound (timed a t c) = λ a. record { its_tnc = e; its_channel = s } in
     pick_all BothSound (sound_tnc t) _ _
     (λ u. pick_all BothSound (sound_channel c) _ _
     (λ v. pick_all BothSound (leb n FARTHEST) _ _
@@ -58,7 +59,7 @@ end_sound t c n e s =
           (states.sound_ending_at t.radio.state (c.clock + n) (omega (arith, clock_bound c s, leb-true n FARTHEST w)) (its_state t e));
       its_channel = s;
     })
-    (λ w. same OutOfRange)) (λ v. same NotSet)) (λ u. same NotSet)
+    (λ w. same (Err OutOfRange))) (λ v. same (Err NotSet))) (λ u. same (Err NotSet))
 
 pub sound_stays_sound : SoundStaysSound
 sound_stays_sound t c n e s = (now_sound t c n e s, end_sound t c n e s)
@@ -68,20 +69,20 @@ sound_stays_sound t c n e s = (now_sound t c n e s, end_sound t c n e s)
 abbrev Fair : Tnc → Channel → Timed → Type 0
 Fair t c r = (set_number r.answer ≡ 0 → ⊥) → Kept t c r
 
-clock_fair : (a : ChannelAnswer) (t : Tnc) (c d : Channel) (n : ℕ) → ((set_number a ≡ 0 → ⊥) → d ≡ c) → Fair t c (on_clock a t d n)
-clock_fair Done t c d n k f = absurd (f refl)
-clock_fair OutOfRange t c d n k f = record { its_tnc = refl; its_channel = k f }
-clock_fair NotSet t c d n k f = record { its_tnc = refl; its_channel = k f }
+clock_fair : (a : (Result (Unit {0}) ChannelError)) (t : Tnc) (c d : Channel) (n : ℕ) → ((set_number a ≡ 0 → ⊥) → d ≡ c) → Fair t c (on_clock a t d n)
+clock_fair (Ok tt) t c d n k f = absurd (f refl)
+clock_fair (Err OutOfRange) t c d n k f = record { its_tnc = refl; its_channel = k f }
+clock_fair (Err NotSet) t c d n k f = record { its_tnc = refl; its_channel = k f }
 
 pub refused_keeps_all : RefusedKeepsAll
 unfolding now_set end_time_set
 refused_keeps_all t c n =
-    let same : (a : ChannelAnswer) → Fair t c (timed a t c) = λ a f. record { its_tnc = refl; its_channel = refl } in (
+    let same : (a : (Result (Unit {0}) ChannelError)) → Fair t c (timed a t c) = λ a f. record { its_tnc = refl; its_channel = refl } in (
       pick_all (Fair t c) (sound_tnc t) _ _
-          (λ u. clock_fair (clock_set c n).answer t c (clock_set c n).channel n ((channels.refused_keeps_all c).by_clock n)) (λ u. same NotSet),
+          (λ u. clock_fair (clock_set c n).answer t c (clock_set c n).channel n ((channels.refused_keeps_all c).by_clock n)) (λ u. same (Err NotSet)),
       pick_all (Fair t c) (sound_tnc t) _ _
           (λ u. pick_all (Fair t c) (sound_channel c) _ _
-          (λ v. pick_all (Fair t c) (leb n FARTHEST) _ _ (λ w f. absurd (f refl)) (λ w. same OutOfRange)) (λ v. same NotSet)) (λ u. same NotSet),
+          (λ v. pick_all (Fair t c) (leb n FARTHEST) _ _ (λ w f. absurd (f refl)) (λ w. same (Err OutOfRange))) (λ v. same (Err NotSet))) (λ u. same (Err NotSet)),
     )
 
 -- ---- PTT
@@ -102,21 +103,21 @@ module _ (t : Tnc) (c : Channel) (now : ℕ) (e : sound_tnc t ≡ true) where
   abbrev Right : Timed → Type 0
   Right r = (t.ptt ≡ true → r.tnc.ptt ≡ false → Over t.radio.state now) × (t.ptt ≡ false → r.tnc.ptt ≡ false)
 
-  same_right : (a : ChannelAnswer) (d : Channel) → Right (timed a t d)
+  same_right : (a : (Result (Unit {0}) ChannelError)) (d : Channel) → Right (timed a t d)
   same_right a d = (λ on off. absurd (false≢true (sym off ∙ on)), λ off. off)
 
-  clock_right : (a : ChannelAnswer) (d : Channel) → Right (on_clock a t d now)
-  clock_right Done d = (
+  clock_right : (a : (Result (Unit {0}) ChannelError)) (d : Channel) → Right (on_clock a t d now)
+  clock_right (Ok tt) d = (
     λ on off. states.ptt_until_the_end t.radio.state now (sym (parts t e).its_ptt ∙ on) off,
     λ off. reached_off t.radio.state now (sym (parts t e).its_ptt ∙ off),
   )
-  clock_right OutOfRange d = same_right OutOfRange d
-  clock_right NotSet d = same_right NotSet d
+  clock_right (Err OutOfRange) d = same_right (Err OutOfRange) d
+  clock_right (Err NotSet) d = same_right (Err NotSet) d
 
 pub ptt_until_the_end : PttUntilTheEnd
 unfolding now_set
 ptt_until_the_end t c now e =
-    let r = pick_all (Right t c now e) (sound_tnc t) _ _ (λ u. clock_right t c now e (clock_set c now).answer (clock_set c now).channel) (λ u. same_right t c now e NotSet c) in
+    let r = pick_all (Right t c now e) (sound_tnc t) _ _ (λ u. clock_right t c now e (clock_set c now).answer (clock_set c now).channel) (λ u. same_right t c now e (Err NotSet) c) in
     record { goes = r.0; stays = r.1 }
 
 pub end_time_keeps_ptt : EndTimeKeepsPtt

@@ -1,9 +1,9 @@
 -- The calls that tell the TNC the time, from document 01's answer 6, its "Bounds for 8" and m17core's tnc.rs. Assumes nothing.
-use Rattle.std.specs.Prelude.{ℕ, ◌+◌, ◌^◌, leb}
+use Rattle.std.specs.Prelude.{ℕ, ◌+◌, ◌^◌, leb, Result, Ok, Err}
 use Rattle.choice.specs.Pick.{pick}
 use Rattle.channel.specs.declared.Channel.{Channel}
-use Rattle.channel.specs.declared.ChannelAnswer.{ChannelAnswer}
-use Rattle.channel.specs.declared.ChannelAnswer.TheVariants.{Done, OutOfRange, OutOfBounds as NotSet}
+use Rattle.channel.specs.declared.ChannelError.{ChannelError}
+use Rattle.channel.specs.declared.ChannelError.TheVariants.{OutOfRange, OutOfBounds as NotSet}
 use Rattle.channel.specs.Access.{sound_channel, clock_set}
 use Rattle.state.specs.declared.State.{State}
 use Rattle.state.specs.State.{time_reached, ending_at}
@@ -12,7 +12,7 @@ use Rattle.tnc_core.specs.declared.Tnc.{Tnc}
 use Rattle.tnc_core.specs.Tnc.{sound_tnc, with_state}
 use Rattle.tnc_clock.specs.declared.Timed.{Timed}
 
-abbrev pub timed : ChannelAnswer → Tnc → Channel → Timed
+abbrev pub timed : Result (Unit {0}) ChannelError → Tnc → Channel → Timed
 timed a t c = record { answer = a; tnc = t; channel = c }
 
 -- the radio in another state, with the message that waits
@@ -21,13 +21,13 @@ in_state r s = record { state = s; outgoing = r.outgoing }
 
 -- ---- the clock: a transmission whose end has come is over
 
-abbrev pub on_clock : ChannelAnswer → Tnc → Channel → ℕ → Timed
-on_clock Done t c now = timed Done (with_state t (time_reached t.radio.state now)) c
-on_clock OutOfRange t c now = timed OutOfRange t c
-on_clock NotSet t c now = timed NotSet t c
+abbrev pub on_clock : Result (Unit {0}) ChannelError → Tnc → Channel → ℕ → Timed
+on_clock (Ok tt) t c now = timed (Ok tt) (with_state t (time_reached t.radio.state now)) c
+on_clock (Err OutOfRange) t c now = timed (Err OutOfRange) t c
+on_clock (Err NotSet) t c now = timed (Err NotSet) t c
 
 unfoldable pub now_set : Tnc → Channel → ℕ → Timed
-now_set t c now = pick (sound_tnc t) (on_clock (clock_set c now).answer t (clock_set c now).channel now) (timed NotSet t c)
+now_set t c now = pick (sound_tnc t) (on_clock (clock_set c now).answer t (clock_set c now).channel now) (timed (Err NotSet) t c)
 
 -- ---- the end of a transmission: at most 2^32 samples ahead
 
@@ -38,6 +38,6 @@ unfoldable pub end_time_set : Tnc → Channel → ℕ → Timed
 end_time_set t c ahead =
     pick (sound_tnc t)
     (pick (sound_channel c)
-    (pick (leb ahead FARTHEST) (timed Done (with_state t (ending_at t.radio.state (c.clock + ahead))) c) (timed OutOfRange t c))
-    (timed NotSet t c))
-    (timed NotSet t c)
+    (pick (leb ahead FARTHEST) (timed (Ok tt) (with_state t (ending_at t.radio.state (c.clock + ahead))) c) (timed (Err OutOfRange) t c))
+    (timed (Err NotSet) t c))
+    (timed (Err NotSet) t c)

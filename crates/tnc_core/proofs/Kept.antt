@@ -10,8 +10,8 @@ use Rattle.packets.proofs.Kept as packets
 use Rattle.streams.proofs.Kept as streams
 use Rattle.streams.specs.Queue.{STORE as STREAMS, empty_queue as no_stream}
 use Rattle.radio.specs.Radio.{sound_radio}
-use Rattle.tnc_core.specs.declared.Ptt.{Ptt}
-use Rattle.tnc_core.specs.declared.Ptt.TheVariants.{Off, On}
+use Rattle.std.specs.Prelude.{Ok, false, true, Result, Bool}
+use Rattle.room.specs.declared.LentError.{LentError}
 use Rattle.tnc_core.specs.Tnc.{sound_tnc, ptt_of, with_radio}
 use Rattle.tnc_core.specs.Promises.{NewIsSound, NewIsEmpty, WithRadioIsSound, PttIsTheState}
 use Rattle.tnc_core.proofs.Bounds.{parts, joined}
@@ -29,4 +29,4 @@ with_radio_is_sound t r e s = let p = parts t e in joined (with_radio t r) (reco
 
 pub ptt_is_the_state : PttIsTheState
 unfolding ptt_of pick
-ptt_is_the_state t e = rw e (ap (λ (b : Bool). pick {A = Ptt} b On Off) (parts t e).its_ptt)
+ptt_is_the_state t e = rw e (ap (λ (b : Bool). pick {A = (Result Bool LentError)} b (Ok true) (Ok false)) (parts t e).its_ptt)

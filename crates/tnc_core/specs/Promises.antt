@@ -1,5 +1,5 @@
 -- What is promised of the TNC's record, from document 01. Each is proved in proofs/Kept.antt. Assumes nothing.
-use Rattle.std.specs.Prelude.{true, false, ◌≡◌}
+use Rattle.std.specs.Prelude.{true, false, ◌≡◌, Ok}
 use Rattle.choice.specs.Pick.{pick}
 use Rattle.packets.specs.Queue.{is_empty as no_packet}
 use Rattle.streams.specs.Queue.{empty_queue as no_stream}
@@ -8,7 +8,6 @@ use Rattle.state.specs.State.{transmits}
 use Rattle.radio.specs.declared.Radio.{Radio}
 use Rattle.radio.specs.Radio.{sound_radio}
 use Rattle.tnc_core.specs.declared.Tnc.{Tnc}
-use Rattle.tnc_core.specs.declared.Ptt.TheVariants.{Off, On}
 use Rattle.tnc_core.specs.Tnc.{new_tnc, sound_tnc, ptt_of, with_radio}
 
 abbrev pub NewIsSound : Type 0
@@ -24,4 +23,4 @@ WithRadioIsSound = (t : Tnc) (r : Radio) → sound_tnc t ≡ true → sound_radi
 
 -- PTT is on exactly in the five transmit states
 abbrev pub PttIsTheState : Type 0
-PttIsTheState = (t : Tnc) → sound_tnc t ≡ true → ptt_of t ≡ pick (transmits t.radio.state) On Off
+PttIsTheState = (t : Tnc) → sound_tnc t ≡ true → ptt_of t ≡ pick (transmits t.radio.state) (Ok true) (Ok false)

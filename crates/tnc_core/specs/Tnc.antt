@@ -1,5 +1,5 @@
 -- The TNC's record with its bounds, from document 01's "Bounds for 8" and m17core's tnc.rs. Assumes nothing.
-use Rattle.std.specs.Prelude.{ℕ, Bool, false, not, leb}
+use Rattle.std.specs.Prelude.{ℕ, Bool, false, not, leb, Result, Ok, true, Err}
 use Rattle.choice.specs.Pick.{pick, and}
 use Rattle.kiss_reader.specs.Reader.{STORE as READER, new_reader}
 use Rattle.kiss_calls.specs.Calls.{buffer_of}
@@ -11,8 +11,8 @@ use Rattle.state.specs.State.{transmits}
 use Rattle.radio.specs.declared.Radio.{Radio}
 use Rattle.radio.specs.Radio.{sound_radio}
 use Rattle.tnc_core.specs.declared.Tnc.{Tnc}
-use Rattle.tnc_core.specs.declared.Ptt.{Ptt}
-use Rattle.tnc_core.specs.declared.Ptt.TheVariants.{Off, On, OutOfBounds}
+use Rattle.room.specs.declared.LentError.{LentError}
+use Rattle.room.specs.declared.LentError.TheVariants.{OutOfBounds}
 
 abbrev pub new_tnc : Tnc
 new_tnc = record { buffer = buffer_of new_reader; sending = new_sending; radio = record { state = Idle; outgoing = no_message }; ptt = false }
@@ -23,8 +23,8 @@ sound_tnc t =
     and (leb t.buffer.filled READER)
     (and (sound_sending t.sending) (and (sound_radio t.radio) (pick (transmits t.radio.state) t.ptt (not t.ptt))))
 
-unfoldable pub ptt_of : Tnc → Ptt
-ptt_of t = pick (sound_tnc t) (pick t.ptt On Off) OutOfBounds
+unfoldable pub ptt_of : Tnc → Result Bool LentError
+ptt_of t = pick (sound_tnc t) (pick t.ptt (Ok true) (Ok false)) (Err OutOfBounds)
 
 -- with another radio, and with another state
 abbrev pub with_radio : Tnc → Radio → Tnc
@@ -34,7 +34,7 @@ abbrev pub with_state : Tnc → State → Tnc
 with_state t s = with_radio t (record { state = s; outgoing = t.radio.outgoing })
 
 -- document 01's number of PTT's answer
-abbrev pub ptt_number : Ptt → ℕ
-ptt_number Off = 0
-ptt_number On = 0
-ptt_number OutOfBounds = 8
+abbrev pub ptt_number : Result Bool LentError → ℕ
+ptt_number (Ok false) = 0
+ptt_number (Ok true) = 0
+ptt_number (Err OutOfBounds) = 8

@@ -7,8 +7,11 @@ use mathlib.Core.Path.{◌≡◌, refl, sym, ap, ◌∙◌}
 use native.Mathlib.Omega.{arith}
 use Rattle.choice.specs.Pick.{pick, pick_all, and_both}
 use Rattle.channel.specs.declared.Channel.{Channel}
-use Rattle.channel.specs.declared.AccessAnswer.{AccessAnswer}
-use Rattle.channel.specs.declared.AccessAnswer.TheVariants.{Sends, Waits, OutOfBounds as NoAccess}
+use Rattle.std.specs.Prelude.{Ok, Result, Err}
+use Rattle.channel.specs.declared.Access.TheVariants.{Sends, Waits}
+use Rattle.channel.specs.declared.Access.{Access}
+use Rattle.channel.specs.declared.ChannelError.{ChannelError}
+use Rattle.channel.specs.declared.ChannelError.TheVariants.{OutOfBounds as NoAccess}
 use Rattle.channel.specs.Access.{sound_channel, accessed}
 use Rattle.channel.proofs.Kept.{sound_stays_sound as channel_sound, carrier_holds_back as carrier_holds}
 use Rattle.state.specs.declared.State.{State}
@@ -223,7 +226,7 @@ module _ (x : Box) where
   -- a read that is answered with a preamble
   pub record Begins (r : TxRead) : Type 0 where
     pub off : transmits x.state ≡ false
-    pub leave : (accessed x.channel).answer ≡ Sends
+    pub leave : (accessed x.channel).answer ≡ (Ok Sends)
     pub is : r ≡ keyed_up x.sending (accessed x.channel).channel
 
   begins : {r : TxRead} → Reads x r → r.answer ≡ Preamble → Begins r
@@ -284,10 +287,10 @@ pub packets_begin : PacketsBegin
 unfolding keyed_up pick
 packets_begin x p e = ap (λ (r : TxRead). r.state) (begins x (its_outcome x) e).is ∙ ap (λ (b : Bool). pick b TxStream TxPacket) p
 
-may : AccessAnswer → Bool
-may Sends = true
-may Waits = false
-may NoAccess = false
+may : Result Access ChannelError → Bool
+may (Ok Sends) = true
+may (Ok Waits) = false
+may (Err NoAccess) = false
 
 pub keys_up : KeysUp
 unfolding keyed_up may

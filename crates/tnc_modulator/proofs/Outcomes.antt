@@ -9,8 +9,11 @@ use lib.Dec.{eqb}
 use lib.ListN.{length}
 use Rattle.choice.specs.Pick.{pick, and, and_fst, and_snd}
 use Rattle.channel.specs.declared.Channel.{Channel}
-use Rattle.channel.specs.declared.AccessAnswer.{AccessAnswer}
-use Rattle.channel.specs.declared.AccessAnswer.TheVariants.{Sends, Waits, OutOfBounds as NoAccess}
+use Rattle.std.specs.Prelude.{Ok, Result, Err}
+use Rattle.channel.specs.declared.Access.TheVariants.{Waits, Sends}
+use Rattle.channel.specs.declared.Access.{Access}
+use Rattle.channel.specs.declared.ChannelError.{ChannelError}
+use Rattle.channel.specs.declared.ChannelError.TheVariants.{OutOfBounds as NoAccess}
 use Rattle.channel.specs.Access.{sound_channel, accessed, access_number}
 use Rattle.state.specs.declared.State.{State}
 use Rattle.state.specs.declared.State.TheVariants.{Idle, RxAcquiringStream, RxStream, RxPacket, TxStream, TxStreamSentEndOfStream, TxPacket, TxEnding, TxEndingAtTime}
@@ -54,8 +57,8 @@ module _ (s : State) (q : Sending) (c : Channel) (e : all_sound s q c ≡ true) 
 -- a read behind the tests
 pub data Passed (s : State) (q : Sending) (c : Channel) (ps ss : List ℕ) : TxRead → Type 0 where
   none_waits : transmits s ≡ false → wants_to_send q ≡ false → Passed s q c ps ss (unfilled Nothing s q c)
-  held_back : transmits s ≡ false → wants_to_send q ≡ true → (accessed c).answer ≡ Waits → Passed s q c ps ss (unfilled Nothing s q (accessed c).channel)
-  is_keyed_up : transmits s ≡ false → wants_to_send q ≡ true → (accessed c).answer ≡ Sends → Passed s q c ps ss (keyed_up q (accessed c).channel)
+  held_back : transmits s ≡ false → wants_to_send q ≡ true → (accessed c).answer ≡ (Ok Waits) → Passed s q c ps ss (unfilled Nothing s q (accessed c).channel)
+  is_keyed_up : transmits s ≡ false → wants_to_send q ≡ true → (accessed c).answer ≡ (Ok Sends) → Passed s q c ps ss (keyed_up q (accessed c).channel)
   in_stream : s ≡ TxStream → frame_number (next_frame q.streams ss).answer ≡ 0 → Passed s q c ps ss (stream_read q c (next_frame q.streams ss))
   stream_over : s ≡ TxStreamSentEndOfStream → Passed s q c ps ss (unfilled EndOfTransmission TxEnding q c)
   is_in_packets : s ≡ TxPacket → piece_number (next_piece q.packets ps).answer ≡ 0 → Passed s q c ps ss (packet_read q c (next_piece q.packets ps))
@@ -75,10 +78,10 @@ module _ (q : Sending) (c : Channel) (ps ss : List ℕ) where
   unfolding begun pick
   begun-passed s off e = by (wants_to_send q) refl
     where
-      access : wants_to_send q ≡ true → (a : AccessAnswer) → (accessed c).answer ≡ a → access_number a ≡ 0 → Passed s q c ps ss (allowed a s q (accessed c).channel)
-      access w Sends f n = is_keyed_up off w f
-      access w Waits f n = held_back off w f
-      access w NoAccess f n = absurd (omega (arith, n))
+      access : wants_to_send q ≡ true → (a : (Result Access ChannelError)) → (accessed c).answer ≡ a → access_number a ≡ 0 → Passed s q c ps ss (allowed a s q (accessed c).channel)
+      access w (Ok Sends) f n = is_keyed_up off w f
+      access w (Ok Waits) f n = held_back off w f
+      access w (Err NoAccess) f n = absurd (omega (arith, n))
 
       by : (t : Bool) → wants_to_send q ≡ t → Passed s q c ps ss (pick t (allowed (accessed c).answer s q (accessed c).channel) (unfilled Nothing s q c))
       by true w = access w (accessed c).answer refl (access_answered c e)

@@ -1,7 +1,7 @@
 -- What is promised of the reads for the modulator, from document 01. Each is proved in proofs/Kept.antt. Assumes nothing.
-use Rattle.std.specs.Prelude.{ℕ, true, false, List, ◌≢◌, ◌≡◌, length}
+use Rattle.std.specs.Prelude.{ℕ, true, false, List, ◌≢◌, ◌≡◌, length, Ok}
 use Rattle.channel.specs.declared.Channel.{Channel}
-use Rattle.channel.specs.declared.AccessAnswer.TheVariants.{Sends}
+use Rattle.channel.specs.declared.Access.TheVariants.{Sends}
 use Rattle.channel.specs.Access.{accessed}
 use Rattle.protocol.specs.declared.lsf.LsfFrame.{LsfFrame}
 use Rattle.protocol.specs.declared.StreamFrame.{StreamFrame}
@@ -76,7 +76,7 @@ CarrierHoldsBack = (x : Box) → x.channel.carrier ≡ true → x.channel.duplex
 
 -- where something waits to be sent and the channel may be used, a transmission is begun
 abbrev pub KeysUp : Type 0
-KeysUp = (x : Box) → Sound x → transmits x.state ≡ false → wants_to_send x.sending ≡ true → (accessed x.channel).answer ≡ Sends → (read_of x).answer ≡ Preamble
+KeysUp = (x : Box) → Sound x → transmits x.state ≡ false → wants_to_send x.sending ≡ true → (accessed x.channel).answer ≡ (Ok Sends) → (read_of x).answer ≡ Preamble
 
 -- with no LSF pending and no packet waiting nothing is begun, and nothing changes
 abbrev pub NothingToSendKeysNothing : Type 0

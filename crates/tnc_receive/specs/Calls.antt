@@ -1,9 +1,9 @@
 -- The TNC's calls with a frame from the air: each tests its stores (7) and all of the record (8), and then does what the radio does, from document 01's "From the air" and
 -- "Answer numbers". Assumes nothing.
-use Rattle.std.specs.Prelude.{ℕ, List, eqb, length}
+use Rattle.std.specs.Prelude.{ℕ, List, eqb, length, Result, Err}
 use Rattle.choice.specs.Pick.{pick}
-use Rattle.radio.specs.declared.AirAnswer.{AirAnswer}
-use Rattle.radio.specs.declared.AirAnswer.TheVariants.{WrongStore as NoAirStore, OutOfBounds as NoAirState}
+use Rattle.radio.specs.declared.AirError.{AirError}
+use Rattle.radio.specs.declared.AirError.TheVariants.{WrongStore as NoAirStore, OutOfBounds as NoAirState}
 use Rattle.radio.specs.declared.Heard.{Heard}
 use Rattle.radio.specs.declared.Hears.{Hears}
 use Rattle.radio.specs.declared.Hears.TheVariants.{Frame, Answer}
@@ -12,7 +12,7 @@ use Rattle.tnc_core.specs.declared.Tnc.{Tnc}
 use Rattle.tnc_core.specs.Tnc.{sound_tnc, with_radio}
 use Rattle.tnc_receive.specs.declared.TncHeard.{TncHeard}
 
-abbrev pub not_heard : AirAnswer → Tnc → TncHeard
+abbrev pub not_heard : Result (Unit {0}) AirError → Tnc → TncHeard
 not_heard a t = record { answer = a; tnc = t }
 
 -- a frame changes state and message, and PTT follows the state
@@ -22,8 +22,8 @@ put_heard t h = record { answer = h.answer; tnc = with_radio t h.radio }
 abbrev pub hears_by : Tnc → ℕ → ℕ → Hears
 hears_by t rx message =
     pick (eqb rx RX)
-    (pick (eqb message MESSAGE) (pick (sound_tnc t) Frame (Answer NoAirState)) (Answer NoAirStore))
-    (Answer NoAirStore)
+    (pick (eqb message MESSAGE) (pick (sound_tnc t) Frame (Answer (Err NoAirState))) (Answer (Err NoAirStore)))
+    (Answer (Err NoAirStore))
 
 -- of the stores only their lengths count
 unfoldable pub tnc_hears : Tnc → List ℕ → List ℕ → Hears

@@ -13,7 +13,8 @@ use Rattle.lich.specs.declared.Assembled.{Assembled}
 use Rattle.lich.specs.declared.Assembly.{Assembly}
 use Rattle.lich.specs.declared.Assembly.TheVariants.{Whole, Missing, OutOfBounds}
 use Rattle.lich.specs.Lich.{heard_count, assembled}
-use Rattle.kiss_layout.specs.declared.Built.{Built}
+use Rattle.std.specs.Prelude.{Result, ℕ}
+use Rattle.kiss_layout.specs.declared.BuildError.{BuildError}
 use Rattle.kiss_layout.specs.Build.{stream_setup, built}
 use Rattle.state.specs.declared.State.TheVariants.{RxStream}
 use Rattle.radio.specs.declared.Radio.{Radio}
@@ -61,7 +62,7 @@ module _ (r : Radio) (c : LichCollection) (number : ℕ) (out : List ℕ) where
   unfolding pick
   wrong_crc bytes e q n = rw (← q, ne_eqb _ 0 n) (λ t. (e t, out))
 
-  pub right_crc : (bytes : List ℕ) {h : Heard} {b : Built} {last : List ℕ} {k : ℕ} → h ≡ told_of (RxStream (number + 1)) b → (b, last) ≡ built (stream_setup bytes) out
+  pub right_crc : (bytes : List ℕ) {h : Heard} {b : (Result ℕ BuildError)} {last : List ℕ} {k : ℕ} → h ≡ told_of (RxStream (number + 1)) b → (b, last) ≡ built (stream_setup bytes) out
       → k ≡ crc_of bytes → k ≡ 0 → (h, last) ≡ by_assembly r c number out Whole bytes
   unfolding pick
   right_crc bytes {last = last} e p q n = rw (eq-eqb (crc_of bytes) 0 (sym q ∙ n)) ((λ t. (e t, last)) ∙ (λ t. (told_of (RxStream (number + 1)) (p t).0, (p t).1)))

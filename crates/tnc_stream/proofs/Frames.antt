@@ -11,18 +11,19 @@ use Rattle.state.specs.declared.Reception.TheVariants.{Acquiring}
 use Rattle.state.specs.State.{reception_of}
 use Rattle.state.proofs.Bounds.{mask_bound}
 use Rattle.radio.specs.declared.Radio.{Radio}
-use Rattle.radio.specs.declared.AirAnswer.TheVariants.{OutOfRange}
+use Rattle.std.specs.Prelude.{Err}
+use Rattle.radio.specs.declared.AirError.TheVariants.{OutOfRange}
 use Rattle.radio.specs.declared.Heard.{Heard}
 use Rattle.radio.specs.Radio.{sound_radio, answered}
 use Rattle.tnc_stream.specs.Stream.{received_in, ranged}
 
 module _ (r : Radio) (f : StreamFrame) (rx out : List ℕ) where
-  pub index_over : {h : Heard} → h ≡ answered OutOfRange r → 5 < f.lich_idx → (h, rx, out) ≡ ranged r f rx out
+  pub index_over : {h : Heard} → h ≡ answered (Err OutOfRange) r → 5 < f.lich_idx → (h, rx, out) ≡ ranged r f rx out
   unfolding ranged pick
   index_over e n = rw (lt-ltb 5 f.lich_idx n) (λ t. (e t, rx, out))
 
   module _ (i : f.lich_idx ≤ 5) where
-    pub number-over : {h : Heard} → h ≡ answered OutOfRange r → 32767 < f.frame_number → (h, rx, out) ≡ ranged r f rx out
+    pub number-over : {h : Heard} → h ≡ answered (Err OutOfRange) r → 32767 < f.frame_number → (h, rx, out) ≡ ranged r f rx out
     unfolding ranged pick
     number-over e n = rw (le-ltb 5 f.lich_idx i, lt-ltb 32767 f.frame_number n) (λ t. (e t, rx, out))
 

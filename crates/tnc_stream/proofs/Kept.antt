@@ -21,7 +21,8 @@ use Rattle.state.specs.declared.Reception.{Reception}
 use Rattle.state.specs.declared.Reception.TheVariants.{Nothing, Acquiring, Stream, Packet}
 use Rattle.state.specs.State.{reception_of, sound_state}
 use Rattle.radio.specs.declared.Radio.{Radio}
-use Rattle.radio.specs.declared.AirAnswer.TheVariants.{Done, OutOfRange}
+use Rattle.std.specs.Prelude.{Ok, Err}
+use Rattle.radio.specs.declared.AirError.TheVariants.{OutOfRange}
 use Rattle.radio.specs.declared.Heard.{Heard}
 use Rattle.radio.specs.Radio.{sound_radio, answered, air_number}
 use Rattle.radio.specs.Box.{Box, left_by, Sound, Receiving}
@@ -45,11 +46,11 @@ use Rattle.tnc_stream.proofs.Frames.{index_over, received_as, mask_in_lem}
 Fair : Box → Heard × List ℕ × List ℕ → Type 0
 Fair x h = air_number h.0.answer ≢ 0 → left_by h ≡ x
 
-received_done : (k : Reception) (r : Radio) (f : StreamFrame) (rx out : List ℕ) → (received_in k r f rx out).0.answer ≡ Done
+received_done : (k : Reception) (r : Radio) (f : StreamFrame) (rx out : List ℕ) → (received_in k r f rx out).0.answer ≡ (Ok tt)
 unfolding restarted acquired acquired_with followed
 received_done Nothing r f rx out = refl
-received_done (Acquiring mask) r f rx out = pick_all (λ (h : Heard × List ℕ). h.0.answer ≡ Done) (complete (with_frame f (collection_at mask rx))) _ _ (λ t. refl) (λ t. refl)
-received_done (Stream expected) r f rx out = pick_all (λ (h : Heard × List ℕ × List ℕ). h.0.answer ≡ Done) (ltb f.frame_number expected) _ _ (λ t. refl) (λ t. refl)
+received_done (Acquiring mask) r f rx out = pick_all (λ (h : Heard × List ℕ). h.0.answer ≡ (Ok tt)) (complete (with_frame f (collection_at mask rx))) _ _ (λ t. refl) (λ t. refl)
+received_done (Stream expected) r f rx out = pick_all (λ (h : Heard × List ℕ × List ℕ). h.0.answer ≡ (Ok tt)) (ltb f.frame_number expected) _ _ (λ t. refl) (λ t. refl)
 received_done (Packet count) r f rx out = refl
 
 ranged_fair : (x : Box) (f : StreamFrame) → Fair x (ranged x.radio f x.rx x.out)
@@ -79,7 +80,7 @@ pub number_over_32767_is_refused : NumberOver32767IsRefused
 unfolding ranged
 number_over_32767_is_refused x f g n =
     listened x f g
-    ∙ pick_all (λ (h : Heard × List ℕ × List ℕ). h ≡ (answered OutOfRange x.radio, x.rx, x.out)) (ltb 5 f.lich_idx) _ _ (λ t. refl)
+    ∙ pick_all (λ (h : Heard × List ℕ × List ℕ). h ≡ (answered (Err OutOfRange) x.radio, x.rx, x.out)) (ltb 5 f.lich_idx) _ _ (λ t. refl)
     (λ t. sym (pick_yes _ (lt-ltb 32767 f.frame_number n) refl))
 
 -- ---- the bounds

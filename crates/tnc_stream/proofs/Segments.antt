@@ -6,7 +6,8 @@ use native.Mathlib.Omega.{arith}
 use borrow.Author.Tests.{lt-leb, le-ltb}
 use lib.ListN.{length}
 use Rattle.choice.specs.Pick.{pick}
-use Rattle.room.specs.declared.Copied.{Copied}
+use Rattle.std.specs.Prelude.{Result}
+use Rattle.room.specs.declared.NoRoom.{NoRoom}
 use Rattle.room.specs.Room.{over, copied}
 use Rattle.room.proofs.Places.{placed-length}
 use Rattle.room.proofs.Copies.{copied_in}
@@ -35,11 +36,11 @@ module _ (f : StreamFrame) (c : LichCollection) (i : f.lich_idx ≤ 5) where
   frame_thirty p n = placed-length f.lich_part c.segments (5 * f.lich_idx) (omega (arith, i, p, n)) ∙ n
 
 -- segments over the store's start
-pub segments_in : (s rx last : List ℕ) {k : Copied} → length s ≡ 30 → length rx ≡ RX → (k, last) ≡ copied s rx 0 → last ≡ over s rx
+pub segments_in : (s rx last : List ℕ) {k : (Result (Unit {0}) NoRoom)} → length s ≡ 30 → length rx ≡ RX → (k, last) ≡ copied s rx 0 → last ≡ over s rx
 segments_in s rx last n full e = let fit : length s ≤ length rx = omega (arith, n, full) in copied_in s rx 0 e (omega (arith, fit)) ∙ put_front rx s fit
 
 -- acquisition restarts
-pub restart_is : (r : Radio) (f : StreamFrame) (rx : List ℕ) → f.lich_idx ≤ 5 → length f.lich_part ≡ 5 → length rx ≡ RX → {s : SegmentSet} {h : Heard} {k : Copied} {last : List ℕ}
+pub restart_is : (r : Radio) (f : StreamFrame) (rx : List ℕ) → f.lich_idx ≤ 5 → length f.lich_part ≡ 5 → length rx ≡ RX → {s : SegmentSet} {h : Heard} {k : (Result (Unit {0}) NoRoom)} {last : List ℕ}
     → s ≡ segment_set new_collection f.lich_idx f.lich_part → h ≡ collecting r s.collection → (k, last) ≡ copied s.collection.segments rx 0 → (h, last) ≡ restarted r f rx
 unfolding restarted
 restart_is r f rx i five full {s = s} {last = last} e q p =

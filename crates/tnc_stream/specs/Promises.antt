@@ -1,5 +1,5 @@
 -- What is promised of stream frames from the air, from document 01. Each is proved in proofs/Kept.antt, the last in proofs/Gathered.antt. Assumes nothing.
-use Rattle.std.specs.Prelude.{ℕ, ◌+◌, ◌≤◌, ◌<◌, Bool, true, false, ◌≢◌, ◌≡◌, List, [], ◌∷◌, ◌++◌, eqb, length, take}
+use Rattle.std.specs.Prelude.{ℕ, ◌+◌, ◌≤◌, ◌<◌, Bool, true, false, ◌≢◌, ◌≡◌, List, [], ◌∷◌, ◌++◌, eqb, length, take, Ok, Err}
 use Rattle.choice.specs.Pick.{pick}
 use Rattle.crc.specs.Crc.{crc_of}
 use Rattle.protocol.specs.declared.StreamFrame.{StreamFrame}
@@ -10,7 +10,7 @@ use Rattle.outgoing.specs.Message.{left}
 use Rattle.state.specs.declared.State.{State}
 use Rattle.state.specs.declared.State.TheVariants.{Idle, RxAcquiringStream, RxStream, RxPacket}
 use Rattle.state.specs.State.{transmits}
-use Rattle.radio.specs.declared.AirAnswer.TheVariants.{Done, OutOfRange}
+use Rattle.radio.specs.declared.AirError.TheVariants.{OutOfRange}
 use Rattle.radio.specs.declared.Heard.{Heard}
 use Rattle.radio.specs.Radio.{answered, air_number}
 use Rattle.radio.specs.Box.{Box, left_by, Sound, Receiving}
@@ -42,14 +42,14 @@ RefusedKeepsAll = (x : Box) (f : StreamFrame) → air_number (stream_at x f).0.a
 
 -- while PTT is on every frame, one out of range too, is answered 0 and changes nothing
 abbrev pub SendingHearsNothing : Type 0
-SendingHearsNothing = (x : Box) (f : StreamFrame) → Sound x → transmits x.radio.state ≡ true → stream_at x f ≡ (answered Done x.radio, x.rx, x.out)
+SendingHearsNothing = (x : Box) (f : StreamFrame) → Sound x → transmits x.radio.state ≡ true → stream_at x f ≡ (answered (Ok tt) x.radio, x.rx, x.out)
 
 -- a frame out of range is answered 6, whatever is being received
 abbrev pub IndexOver5IsRefused : Type 0
-IndexOver5IsRefused = (x : Box) (f : StreamFrame) → Receiving x → 5 < f.lich_idx → stream_at x f ≡ (answered OutOfRange x.radio, x.rx, x.out)
+IndexOver5IsRefused = (x : Box) (f : StreamFrame) → Receiving x → 5 < f.lich_idx → stream_at x f ≡ (answered (Err OutOfRange) x.radio, x.rx, x.out)
 
 abbrev pub NumberOver32767IsRefused : Type 0
-NumberOver32767IsRefused = (x : Box) (f : StreamFrame) → Receiving x → 32767 < f.frame_number → stream_at x f ≡ (answered OutOfRange x.radio, x.rx, x.out)
+NumberOver32767IsRefused = (x : Box) (f : StreamFrame) → Receiving x → 32767 < f.frame_number → stream_at x f ≡ (answered (Err OutOfRange) x.radio, x.rx, x.out)
 
 -- a sound box stays sound
 abbrev pub SoundStaysSound : Type 0

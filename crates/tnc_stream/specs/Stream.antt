@@ -1,5 +1,5 @@
 -- What the TNC does with a stream frame from the air, from document 01's "From the air", "LSF, LICH, frames" and "Answer numbers" and m17core's tnc.rs. Assumes nothing.
-use Rattle.std.specs.Prelude.{ℕ, List, ltb}
+use Rattle.std.specs.Prelude.{ℕ, List, ltb, Err}
 use Rattle.choice.specs.Pick.{pick}
 use Rattle.room.specs.Room.{over}
 use Rattle.protocol.specs.Lsf.{part}
@@ -9,7 +9,7 @@ use Rattle.state.specs.declared.Reception.{Reception}
 use Rattle.state.specs.declared.Reception.TheVariants.{Nothing, Acquiring, Stream, Packet}
 use Rattle.state.specs.State.{reception_of}
 use Rattle.radio.specs.declared.Radio.{Radio}
-use Rattle.radio.specs.declared.AirAnswer.TheVariants.{OutOfRange}
+use Rattle.radio.specs.declared.AirError.TheVariants.{OutOfRange}
 use Rattle.radio.specs.declared.Heard.{Heard}
 use Rattle.radio.specs.Radio.{answered, unless_sending}
 use Rattle.tnc_stream.specs.Restarted.{with_frame, restarted}
@@ -38,8 +38,8 @@ received_in (Packet count) r f rx out = ((restarted r f rx).0, (restarted r f rx
 -- a LICH index over 5 and a frame number over 32,767 are 6, in every state that hears
 unfoldable pub ranged : Radio → StreamFrame → List ℕ → List ℕ → Heard × List ℕ × List ℕ
 ranged r f rx out =
-    pick (ltb 5 f.lich_idx) (answered OutOfRange r, rx, out)
-    (pick (ltb 32767 f.frame_number) (answered OutOfRange r, rx, out)
+    pick (ltb 5 f.lich_idx) (answered (Err OutOfRange) r, rx, out)
+    (pick (ltb 32767 f.frame_number) (answered (Err OutOfRange) r, rx, out)
     (received_in (reception_of r.state) r f rx out))
 
 unfoldable pub stream_heard : Radio → StreamFrame → List ℕ → List ℕ → Heard × List ℕ × List ℕ

@@ -3,7 +3,9 @@ use mathlib.Core.Bool.{true, false}
 use mathlib.Core.Path.{◌≡◌, sym, ap, ◌∙◌}
 use Rattle.choice.specs.Pick.{pick}
 use Rattle.channel.specs.declared.Accessed.{Accessed}
-use Rattle.channel.specs.declared.AccessAnswer.{AccessAnswer}
+use Rattle.std.specs.Prelude.{Result}
+use Rattle.channel.specs.declared.Access.{Access}
+use Rattle.channel.specs.declared.ChannelError.{ChannelError}
 use Rattle.channel.specs.declared.Channel.{Channel}
 use Rattle.channel.specs.Access.{accessed}
 use Rattle.state.specs.declared.State.{State}
@@ -18,8 +20,8 @@ module _ (state : State) (sending : Sending) (channel : Channel) where
   unfolding begun pick
   none_waits e = rw e
 
-  pub asked : wants_to_send sending ≡ true → {r : Accessed} → r ≡ accessed channel → {a : AccessAnswer} → r.answer ≡ a
+  pub asked : wants_to_send sending ≡ true → {r : Accessed} → r ≡ accessed channel → {a : (Result Access ChannelError)} → r.answer ≡ a
       → allowed a state sending r.channel ≡ begun state sending channel
   unfolding begun pick
   asked e {r} f g =
-      ap (λ (x : AccessAnswer). allowed x state sending r.channel) (sym g) ∙ ap (λ (x : Accessed). allowed x.answer state sending x.channel) f ∙ rw e
+      ap (λ (x : (Result Access ChannelError)). allowed x state sending r.channel) (sym g) ∙ ap (λ (x : Accessed). allowed x.answer state sending x.channel) f ∙ rw e

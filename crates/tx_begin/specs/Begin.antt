@@ -2,8 +2,11 @@
 -- Assumes nothing.
 use Rattle.choice.specs.Pick.{pick}
 use Rattle.channel.specs.declared.Channel.{Channel}
-use Rattle.channel.specs.declared.AccessAnswer.{AccessAnswer}
-use Rattle.channel.specs.declared.AccessAnswer.TheVariants.{Sends, Waits, OutOfBounds as NoAccess}
+use Rattle.std.specs.Prelude.{Result, Ok, Err}
+use Rattle.channel.specs.declared.Access.{Access}
+use Rattle.channel.specs.declared.ChannelError.{ChannelError}
+use Rattle.channel.specs.declared.Access.TheVariants.{Sends, Waits}
+use Rattle.channel.specs.declared.ChannelError.TheVariants.{OutOfBounds as NoAccess}
 use Rattle.channel.specs.Access.{accessed}
 use Rattle.state.specs.declared.State.{State}
 use Rattle.state.specs.declared.State.TheVariants.{TxStream, TxPacket}
@@ -25,10 +28,10 @@ unfoldable pub keyed_up : Sending → Channel → TxRead
 keyed_up sending channel = preamble (pick sending.streams.pending TxStream TxPacket) sending channel
 
 -- what channel access answered
-abbrev pub allowed : AccessAnswer → State → Sending → Channel → TxRead
-allowed Sends state sending channel = keyed_up sending channel
-allowed Waits state sending channel = unfilled Nothing state sending channel
-allowed NoAccess state sending channel = unfilled OutOfBounds state sending channel
+abbrev pub allowed : Result Access ChannelError → State → Sending → Channel → TxRead
+allowed (Ok Sends) state sending channel = keyed_up sending channel
+allowed (Ok Waits) state sending channel = unfilled Nothing state sending channel
+allowed (Err NoAccess) state sending channel = unfilled OutOfBounds state sending channel
 
 -- the channel is asked where there is something to send
 unfoldable pub begun : State → Sending → Channel → TxRead

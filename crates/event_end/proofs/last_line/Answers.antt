@@ -3,7 +3,8 @@ use Rattle.std.proofs.Common.{ℕ, ◌≡◌, refl, ap, ◌∙◌, arith}
 use mathlib.Core.Bool.{Bool}
 use mathlib.Core.List.{List, [], ◌∷◌}
 use lib.ListN.{length, get_or}
-use Rattle.event_line.specs.declared.Line.{Line}
+use Rattle.std.specs.Prelude.{Result, ℕ}
+use Rattle.event_line.specs.declared.LineError.{LineError}
 use Rattle.event_line.specs.Line.{written}
 use Rattle.event_answer.specs.declared.Applied.{Applied}
 use Rattle.event_answer.specs.Answer.{keyed}
@@ -26,5 +27,5 @@ returns-then-rest-eq0 c = let a = c.args in nothing a.rest.now (keyed a.before.t
 pub returns : goal.returns
 returns c =
     let a = c.args in (λ j. (c.place_after.ensures j, c.put_line-line.new.dst))
-    ∙ ap {B = ℕ × List ℕ} (λ (u : Line × List ℕ). (place_after u.0 0, u.1)) (c.put_line-line.ensures ∙ ap (λ (r : Applied). written (get_or a.rest.now 0 0) r.number r.ptt [] a.dst.now 0) c.refuse-refused.ensures)
+    ∙ ap {B = ℕ × List ℕ} (λ (u : Result ℕ LineError × List ℕ). (place_after u.0 0, u.1)) (c.put_line-line.ensures ∙ ap (λ (r : Applied). written (get_or a.rest.now 0 0) r.number r.ptt [] a.dst.now 0) c.refuse-refused.ensures)
     ∙ something a.rest.now (keyed a.before.tnc) a.dst.now c.if-rest-eq0.false

@@ -9,7 +9,7 @@ use lib.ListN.{length}
 use lib.Seq.{sets}
 use Rattle.choice.specs.Pick.{not_yes, not_no}
 use Rattle.room.proofs.Copies.{copied_in}
-use Rattle.event_line.specs.declared.Line.TheVariants.{Wrote}
+use Rattle.std.specs.Prelude.{Ok}
 use Rattle.event_line.specs.Line.{tail_of, line_of}
 use Rattle.event_line.proofs.Lines.{front, one_most, flag_is, line_is, line_stored, line_long, line_least, fits_line, written_over, written_no, written-yes}
 use mathlib.Core.Bool.{not}
@@ -39,7 +39,7 @@ returns c =
     let fits_in : c.args.at + length (line_of c.args.kind c.args.number c.args.ptt c.args.bytes.now) ≤ length c.args.dst.now = let a = c.args in let l : leb (length (line_of a.kind a.number a.ptt a.bytes.now)) (length a.dst.now - a.at) ≡ true = not_yes (c.line_fits.ensures ∙ fits_line a.kind a.number a.ptt a.bytes.now (length a.dst.now - a.at)) (ap not c.if-not-line_fits.false) in omega (arith, leb-true (length (line_of a.kind a.number a.ptt a.bytes.now)) (length a.dst.now - a.at) l) in
     let begun : c.copy_in.new.dst ≡ sets c.args.dst.now c.args.at (front c.hex_digit.result c.hex_digit-2.result (48 + c.args.number) (48 + bool_byte c.args.ptt)) = let a = c.args in copied_in (front c.hex_digit.result c.hex_digit-2.result (48 + a.number) (48 + bool_byte a.ptt)) a.dst.now a.at c.copy_in.ensures (omega (arith, fits_in, line_least a.kind a.number a.ptt a.bytes.now)) in
     let a = c.args in
-    ap (λ (q : ℕ × List ℕ). (Wrote q.0, q.1))
+    ap (λ (q : ℕ × List ℕ). (Ok q.0, q.1))
     (line_stored a.dst.now _ a.at _ (line_of a.kind a.number a.ptt a.bytes.now) (tail_of a.bytes.now) _ _ _ _ _ (begun)
     (line_is a.kind a.number a.ptt a.bytes.now _ _ _ c.hex_digit.ensures c.hex_digit-2.ensures (flag_is a.ptt))
     c.write_tail.ensures)

@@ -1,8 +1,10 @@
 -- `host_frame::obey_on` meets its contract. Assumes nothing.
 use Rattle.std.proofs.Common.{◌≡◌, ap, ◌∙◌}
 use Rattle.kiss_layout.specs.declared.KissCommand.TheVariants.{DataFrame, TxDelay, P, FullDuplex}
-use Rattle.kiss_layout.specs.declared.CommandRead.{CommandRead}
-use Rattle.kiss_layout.specs.declared.CommandRead.TheVariants.{Command, MalformedKissFrame as NoCommand, UnsupportedKissCommand as NoSuch}
+use Rattle.std.specs.Prelude.{Result, Err, Ok}
+use Rattle.kiss_layout.specs.declared.KissCommand.{KissCommand}
+use Rattle.kiss_layout.specs.declared.KissError.{KissError}
+use Rattle.kiss_layout.specs.declared.KissError.TheVariants.{MalformedKissFrame as NoCommand, UnsupportedKissCommand as NoSuch}
 use Rattle.host_frame.specs.Frame.{by_command, obeyed_on}
 use Rattle.host_frame.proofs.Cases.{other_port, command_as}
 use Rattle.host_frame.proofs.obey_on.Goals as goal
@@ -12,32 +14,32 @@ returns-then-number-gt2 c = let a = c.args in other_port a.host a.frame.now a.pa
 
 pub returns-in-MalformedKissFrame : goal.returns-in-MalformedKissFrame
 returns-in-MalformedKissFrame c =
-    let by_command_lem : (v : CommandRead) → c.command.result ≡ v → by_command v c.args.number c.args.host c.args.frame.now c.args.packets.now c.args.streams.now ≡ obeyed_on c.args.number c.args.host c.args.frame.now c.args.packets.now c.args.streams.now = λ v t. let a = c.args in command_as a.host a.frame.now a.packets.now a.streams.now a.number v c.if-number-gt2.false c.command.ensures t in
-    by_command_lem NoCommand c.in-MalformedKissFrame.is
+    let by_command_lem : (v : (Result KissCommand KissError)) → c.command.result ≡ v → by_command v c.args.number c.args.host c.args.frame.now c.args.packets.now c.args.streams.now ≡ obeyed_on c.args.number c.args.host c.args.frame.now c.args.packets.now c.args.streams.now = λ v t. let a = c.args in command_as a.host a.frame.now a.packets.now a.streams.now a.number v c.if-number-gt2.false c.command.ensures t in
+    by_command_lem (Err NoCommand) c.in-MalformedKissFrame.is
 
 pub returns-in-UnsupportedKissCommand : goal.returns-in-UnsupportedKissCommand
 returns-in-UnsupportedKissCommand c =
-    let by_command_lem : (v : CommandRead) → c.command.result ≡ v → by_command v c.args.number c.args.host c.args.frame.now c.args.packets.now c.args.streams.now ≡ obeyed_on c.args.number c.args.host c.args.frame.now c.args.packets.now c.args.streams.now = λ v t. let a = c.args in command_as a.host a.frame.now a.packets.now a.streams.now a.number v c.if-number-gt2.false c.command.ensures t in
-    by_command_lem NoSuch c.in-UnsupportedKissCommand.is
+    let by_command_lem : (v : (Result KissCommand KissError)) → c.command.result ≡ v → by_command v c.args.number c.args.host c.args.frame.now c.args.packets.now c.args.streams.now ≡ obeyed_on c.args.number c.args.host c.args.frame.now c.args.packets.now c.args.streams.now = λ v t. let a = c.args in command_as a.host a.frame.now a.packets.now a.streams.now a.number v c.if-number-gt2.false c.command.ensures t in
+    by_command_lem (Err NoSuch) c.in-UnsupportedKissCommand.is
 
 pub returns-in-DataFrame : goal.returns-in-DataFrame
 returns-in-DataFrame c =
-    let by_command_lem : (v : CommandRead) → c.command.result ≡ v → by_command v c.args.number c.args.host c.args.frame.now c.args.packets.now c.args.streams.now ≡ obeyed_on c.args.number c.args.host c.args.frame.now c.args.packets.now c.args.streams.now = λ v t. let a = c.args in command_as a.host a.frame.now a.packets.now a.streams.now a.number v c.if-number-gt2.false c.command.ensures t in
-    c.take_data.ensures ∙ by_command_lem (Command DataFrame) (c.in-Command.is ∙ ap Command c.in-DataFrame.is)
+    let by_command_lem : (v : (Result KissCommand KissError)) → c.command.result ≡ v → by_command v c.args.number c.args.host c.args.frame.now c.args.packets.now c.args.streams.now ≡ obeyed_on c.args.number c.args.host c.args.frame.now c.args.packets.now c.args.streams.now = λ v t. let a = c.args in command_as a.host a.frame.now a.packets.now a.streams.now a.number v c.if-number-gt2.false c.command.ensures t in
+    c.take_data.ensures ∙ by_command_lem (Ok DataFrame) (c.in-Command.is ∙ ap Ok c.in-DataFrame.is)
 
 pub returns-in-TxDelay : goal.returns-in-TxDelay
 returns-in-TxDelay c =
-    let by_command_lem : (v : CommandRead) → c.command.result ≡ v → by_command v c.args.number c.args.host c.args.frame.now c.args.packets.now c.args.streams.now ≡ obeyed_on c.args.number c.args.host c.args.frame.now c.args.packets.now c.args.streams.now = λ v t. let a = c.args in command_as a.host a.frame.now a.packets.now a.streams.now a.number v c.if-number-gt2.false c.command.ensures t in
+    let by_command_lem : (v : (Result KissCommand KissError)) → c.command.result ≡ v → by_command v c.args.number c.args.host c.args.frame.now c.args.packets.now c.args.streams.now ≡ obeyed_on c.args.number c.args.host c.args.frame.now c.args.packets.now c.args.streams.now = λ v t. let a = c.args in command_as a.host a.frame.now a.packets.now a.streams.now a.number v c.if-number-gt2.false c.command.ensures t in
     let a = c.args in
-    (λ t. (c.set_tx_delay.ensures t, a.packets.now, a.streams.now)) ∙ by_command_lem (Command TxDelay) (c.in-Command.is ∙ ap Command c.in-TxDelay.is)
+    (λ t. (c.set_tx_delay.ensures t, a.packets.now, a.streams.now)) ∙ by_command_lem (Ok TxDelay) (c.in-Command.is ∙ ap Ok c.in-TxDelay.is)
 
 pub returns-in-P : goal.returns-in-P
 returns-in-P c =
-    let by_command_lem : (v : CommandRead) → c.command.result ≡ v → by_command v c.args.number c.args.host c.args.frame.now c.args.packets.now c.args.streams.now ≡ obeyed_on c.args.number c.args.host c.args.frame.now c.args.packets.now c.args.streams.now = λ v t. let a = c.args in command_as a.host a.frame.now a.packets.now a.streams.now a.number v c.if-number-gt2.false c.command.ensures t in
-    by_command_lem (Command P) (c.in-Command.is ∙ ap Command c.in-P.is)
+    let by_command_lem : (v : (Result KissCommand KissError)) → c.command.result ≡ v → by_command v c.args.number c.args.host c.args.frame.now c.args.packets.now c.args.streams.now ≡ obeyed_on c.args.number c.args.host c.args.frame.now c.args.packets.now c.args.streams.now = λ v t. let a = c.args in command_as a.host a.frame.now a.packets.now a.streams.now a.number v c.if-number-gt2.false c.command.ensures t in
+    by_command_lem (Ok P) (c.in-Command.is ∙ ap Ok c.in-P.is)
 
 pub returns-in-FullDuplex : goal.returns-in-FullDuplex
 returns-in-FullDuplex c =
-    let by_command_lem : (v : CommandRead) → c.command.result ≡ v → by_command v c.args.number c.args.host c.args.frame.now c.args.packets.now c.args.streams.now ≡ obeyed_on c.args.number c.args.host c.args.frame.now c.args.packets.now c.args.streams.now = λ v t. let a = c.args in command_as a.host a.frame.now a.packets.now a.streams.now a.number v c.if-number-gt2.false c.command.ensures t in
+    let by_command_lem : (v : (Result KissCommand KissError)) → c.command.result ≡ v → by_command v c.args.number c.args.host c.args.frame.now c.args.packets.now c.args.streams.now ≡ obeyed_on c.args.number c.args.host c.args.frame.now c.args.packets.now c.args.streams.now = λ v t. let a = c.args in command_as a.host a.frame.now a.packets.now a.streams.now a.number v c.if-number-gt2.false c.command.ensures t in
     let a = c.args in
-    (λ t. (c.set_full_duplex.ensures t, a.packets.now, a.streams.now)) ∙ by_command_lem (Command FullDuplex) (c.in-Command.is ∙ ap Command c.in-FullDuplex.is)
+    (λ t. (c.set_full_duplex.ensures t, a.packets.now, a.streams.now)) ∙ by_command_lem (Ok FullDuplex) (c.in-Command.is ∙ ap Ok c.in-FullDuplex.is)

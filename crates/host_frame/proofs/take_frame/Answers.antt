@@ -7,7 +7,7 @@ use Rattle.choice.specs.Pick.{not_yes, not_no}
 use Rattle.host_record.specs.declared.Host.{Host}
 use Rattle.host_record.specs.Host.{stores_fit}
 use Rattle.host_record.proofs.Stores.{packets_fit, streams_fit}
-use Rattle.host_frame.specs.declared.FrameAnswer.TheVariants.{Done}
+use Rattle.std.specs.Prelude.{Ok}
 use Rattle.host_frame.specs.Frame.{answered}
 use Rattle.host_frame.proofs.Cases.{stores_wrong, unsound, taken}
 use Rattle.host_frame.proofs.take_frame.Goals as goal
@@ -29,5 +29,5 @@ returns c =
     let a = c.args in
     let f = fit (ap not c.if-not-stores_fit.false) in
     (λ t. (c.answered-2.ensures t, c.obey-after.new.packets, c.obey-after.new.streams))
-    ∙ ap (λ (w : Host × List ℕ × List ℕ). answered Done w) c.obey-after.ensures
+    ∙ ap (λ (w : Host × List ℕ × List ℕ). answered (Ok tt) w) c.obey-after.ensures
     ∙ taken a.host a.frame.now a.packets.now a.streams.now (packets_fit _ _ f) (streams_fit _ _ f) (not_yes c.is_sound.ensures (ap not c.if-not-is_sound.false))

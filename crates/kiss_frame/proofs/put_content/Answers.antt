@@ -6,15 +6,16 @@ use lib.ListN.{length, length-take, length-drop}
 use lib.Seq.{sets}
 use Rattle.room.proofs.Parts.{lent_over}
 use Rattle.kiss_layout.specs.Escape.{esc}
-use Rattle.kiss_layout.specs.declared.Escaped.{Escaped}
-use Rattle.kiss_layout.specs.declared.Escaped.TheVariants.{Wrote, NoRoom}
+use Rattle.std.specs.Prelude.{Result, ℕ, Ok, Err}
+use Rattle.room.specs.declared.NoRoom.{NoRoom}
+use Rattle.room.specs.Room.{no_room}
 use Rattle.kiss_layout.proofs.Escapes.{escaped_in, escaped-yes}
 use Rattle.kiss_frame.proofs.put_content.Goals as goal
 
 -- what both arms of the match answer
-abbrev count_of : Escaped → ℕ
-count_of (Wrote n) = n
-count_of NoRoom = 0
+abbrev count_of : Result ℕ NoRoom → ℕ
+count_of (Ok n) = n
+count_of (Err no_room) = 0
 
 pub returns-in-Wrote : goal.returns-in-Wrote
 returns-in-Wrote c =
@@ -23,7 +24,7 @@ returns-in-Wrote c =
     let at : ℕ = c.args.at in
     let k : ℕ = length room - at in
     let part : length (esc src) ≤ length (mid_of at k room) = simp (length-take, length-drop) (omega arith) in
-    let count : count_of c.escape.result ≡ length (esc src) = ap (λ (p : Escaped × List ℕ). count_of p.0) (c.escape.ensures ∙ escaped-yes src (mid_of at k room) part) in
+    let count : count_of c.escape.result ≡ length (esc src) = ap (λ (p : Result ℕ NoRoom × List ℕ). count_of p.0) (c.escape.ensures ∙ escaped-yes src (mid_of at k room) part) in
     let back : put_mid at k room c.escape.new.dst ≡ sets room at (esc src) = ap (put_mid at k room) (escaped_in src (mid_of at k room) c.escape.ensures part) ∙ lent_over at k room (esc src) (omega arith) (omega arith) in
     (ap count_of (sym c.in-Wrote.is) ∙ count, back)
 
@@ -34,6 +35,6 @@ returns-in-NoRoom c =
     let at : ℕ = c.args.at in
     let k : ℕ = length room - at in
     let part : length (esc src) ≤ length (mid_of at k room) = simp (length-take, length-drop) (omega arith) in
-    let count : count_of c.escape.result ≡ length (esc src) = ap (λ (p : Escaped × List ℕ). count_of p.0) (c.escape.ensures ∙ escaped-yes src (mid_of at k room) part) in
+    let count : count_of c.escape.result ≡ length (esc src) = ap (λ (p : Result ℕ NoRoom × List ℕ). count_of p.0) (c.escape.ensures ∙ escaped-yes src (mid_of at k room) part) in
     let back : put_mid at k room c.escape.new.dst ≡ sets room at (esc src) = ap (put_mid at k room) (escaped_in src (mid_of at k room) c.escape.ensures part) ∙ lent_over at k room (esc src) (omega arith) (omega arith) in
     (ap count_of (sym c.in-NoRoom.is) ∙ count, back)

@@ -5,7 +5,7 @@ use borrow.Author.Tests.{leb-true, leb-false}
 use lib.ListN.{length, set, length-set}
 use lib.Seq.{sets, length-sets}
 use Rattle.room.specs.Room.{over}
-use Rattle.kiss_layout.specs.declared.Built.TheVariants.{Frame}
+use Rattle.std.specs.Prelude.{Ok}
 use Rattle.kiss_layout.specs.Escape.{FEND, esc}
 use Rattle.kiss_layout.specs.Frame.{frame}
 use Rattle.kiss_layout.proofs.Frames.{frame_length_two, put_yes, put_no, frame-stored}
@@ -23,7 +23,7 @@ returns-then-frame_fits c =
     let stored : set c.put_content.new.room end FEND ≡ over (frame h (s ++ t)) a.room.now =
     ap (λ (x : List ℕ). set x end FEND) (c.put_content.ensures.1 ∙ ap (λ (x : List ℕ). sets x at (esc t)) c.put_content-at.ensures.1)
     ∙ frame-stored h s t a.room.now at end (omega (arith, first_count)) (omega (arith, second_count)) (omega (arith, room_for, first_count, second_count)) in
-    (λ u. (Frame (len u), stored u)) ∙ sym (put_yes (frame h (s ++ t)) a.room.now (omega (arith, frame_length_two h s t, room_for)))
+    (λ u. (Ok (len u), stored u)) ∙ sym (put_yes (frame h (s ++ t)) a.room.now (omega (arith, frame_length_two h s t, room_for)))
 
 pub returns : goal.returns
 returns c =

@@ -8,7 +8,7 @@ use lib.ListN.{length}
 use Rattle.choice.specs.Pick.{and_snd}
 use Rattle.kiss_reader.specs.Reader.{STORE, front}
 use Rattle.kiss_reader.specs.Front.{or_empty}
-use Rattle.kiss_calls.specs.declared.NextAnswer.TheVariants.{Frame, Nothing}
+use Rattle.std.specs.Prelude.{Ok, None, Some}
 use Rattle.kiss_calls.specs.Calls.{reader_of, sound_buffer}
 use Rattle.kiss_calls.specs.Inside.{compacted}
 use Rattle.kiss_calls.proofs.Inner.{settled_part, settled_within, compacted-by}
@@ -39,7 +39,7 @@ returns-then-len-eq0 c =
     let left : (filled - (from + c.settle_at.result), c.shift.new.dst) ≡ compacted from filled store =
     compacted-by from filled c.settle_at.result store some fits c.settle_at.ensures c.shift.ensures in
     let b = c.args.buffer in let d = store in
-    (λ t. (record { answer = Nothing; buffer = record { filled = compacted-count from filled d left t; taken = false } }, compacted-left from filled d left t))
+    (λ t. (record { answer = Ok None; buffer = record { filled = compacted-count from filled d left t; taken = false } }, compacted-left from filled d left t))
     ∙ found_none (reader_of b d) d held (settle-flush b d) (sym scanned ∙ c.if-len-eq0.true)
     ∙ next_sound b d full sound
 
@@ -59,7 +59,7 @@ returns c =
     let left : (filled - (from + c.settle_at.result), c.shift.new.dst) ≡ compacted from filled store =
     compacted-by from filled c.settle_at.result store some fits c.settle_at.ensures c.shift.ensures in
     let b = c.args.buffer in let d = store in let n = c.front_len-len.result in
-    (λ t. (record { answer = Frame n; buffer = record { filled = compacted-count from filled d left t; taken = true } }, compacted-left from filled d left t))
+    (λ t. (record { answer = Ok (Some n); buffer = record { filled = compacted-count from filled d left t; taken = true } }, compacted-left from filled d left t))
     ∙ found_some (reader_of b d) d held (settle-flush b d) n scanned c.if-len-eq0.false
     ∙ next_sound b d full sound
 

@@ -4,7 +4,8 @@ use mathlib.Core.Bool.{true}
 use borrow.Author.Tests.{not-true, not-false}
 use lib.ListN.{length}
 use Rattle.kiss_layout.specs.Read.{decoded}
-use Rattle.packets.specs.declared.PushAnswer.TheVariants.{Queued}
+use Rattle.std.specs.Prelude.{Ok}
+use Rattle.packets.specs.declared.Push.TheVariants.{Queued}
 use Rattle.packets.specs.Frames.{zeros}
 use Rattle.packets.specs.Queue.{ROOM, STORE, sound_queue, basic_room, made_basic, with_packet, stored, obeyed, pushed_basic}
 use Rattle.packet_basic.specs.Inside.{is_payload}
@@ -74,7 +75,7 @@ returns c =
     let s = sealed-after a.frame.now a.store.now (ROOM * a.queue.next) c.decode_into-n.ensures (fits) k c.seal.ensures in
     let w = was_accepted a.queue _ c.accepted.ensures (below) in
     (λ t. (w t, s t))
-    ∙ ap (λ (m : ℕ). (record { answer = Queued; queue = with_packet a.queue (m + 3) }, stored a.store.now a.queue.next (basic_room m (decoded a.frame.now (zeros 824)).1))) n
+    ∙ ap (λ (m : ℕ). (record { answer = Ok Queued; queue = with_packet a.queue (m + 3) }, stored a.store.now a.queue.next (basic_room m (decoded a.frame.now (zeros 824)).1))) n
     ∙ pushing-obeyed a.queue a.store.now (made_basic a.frame.now) (whole) (sound) c.if-queue.false (basic_fills a.frame.now (payload) (omega (arith, n, k)))
 
 pub seal-requires : goal.seal-requires

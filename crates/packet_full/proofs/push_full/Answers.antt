@@ -6,7 +6,8 @@ use borrow.Author.Tests.{not-true, not-false}
 use lib.ListN.{length}
 use lib.Seq.{length-take-le, sets-eq}
 use Rattle.room.proofs.Copies.{copied_in}
-use Rattle.kiss_layout.specs.declared.Decoded.{Decoded}
+use Rattle.std.specs.Prelude.{Result, ℕ}
+use Rattle.kiss_layout.specs.declared.KissError.{KissError}
 use Rattle.kiss_layout.specs.Read.{decoded}
 use Rattle.packets.specs.Frames.{zeros}
 use Rattle.packets.specs.Queue.{ROOM, STORE, sound_queue, made_full, obeyed, pushed_full}
@@ -81,7 +82,7 @@ returns c =
     let below : c.args.queue.next < 4 = (at_here c.args.queue sound).next in
     let room : List ℕ = c.decode_payload.new.out in
     let came : (c.decode_payload.result, room) ≡ decoded c.args.frame.now (zeros ROOM) = c.decode_payload.ensures in
-    let room_length : length room ≡ ROOM = ap (λ (p : Decoded × List ℕ). length p.1) came ∙ (in_room c.args.frame.now (zeros ROOM)).0 ∙ length-zeros ROOM in
+    let room_length : length room ≡ ROOM = ap (λ (p : Result ℕ KissError × List ℕ). length p.1) came ∙ (in_room c.args.frame.now (zeros ROOM)).0 ∙ length-zeros ROOM in
     let a = c.args in let at : ℕ = ROOM * a.queue.next in
     let fit : at + length (room) ≤ length a.store.now = omega (arith, room_length, below, whole) in
     let s = copied_in (room) a.store.now at c.copy_in.ensures fit ∙ sets-eq (room) a.store.now at fit in
@@ -95,7 +96,7 @@ unfolding zeros
 slice_bounds-m17_crc-end c =
     let room : List ℕ = c.decode_payload.new.out in
     let came : (c.decode_payload.result, room) ≡ decoded c.args.frame.now (zeros ROOM) = c.decode_payload.ensures in
-    let room_length : length room ≡ ROOM = ap (λ (p : Decoded × List ℕ). length p.1) came ∙ (in_room c.args.frame.now (zeros ROOM)).0 ∙ length-zeros ROOM in
+    let room_length : length room ≡ ROOM = ap (λ (p : Result ℕ KissError × List ℕ). length p.1) came ∙ (in_room c.args.frame.now (zeros ROOM)).0 ∙ length-zeros ROOM in
     sym (length-take-le 30 (room) (omega (arith, room_length)))
 
 pub overflow_mul-queue : goal.overflow_mul-queue

@@ -1,6 +1,6 @@
 -- `store::copy_in` meets its contract. Assumes nothing.
 use Rattle.std.proofs.Common.{sym, ◌∙◌, arith}
-use Rattle.room.specs.declared.Copied.TheVariants.{Done}
+use Rattle.std.specs.Prelude.{Ok}
 use Rattle.room.proofs.Copies.{copied-yes, copied_no}
 use Rattle.store.proofs.copy_in.Goals as goal
 
@@ -13,4 +13,4 @@ returns-then-dst-at-2 c = let a = c.args in sym (copied_no a.src.now a.dst.now a
 pub returns : goal.returns
 returns c =
     let a = c.args in
-    (λ t. (Done, c.put.ensures t)) ∙ sym (copied-yes a.src.now a.dst.now a.at (omega arith))
+    (λ t. ((Ok tt), c.put.ensures t)) ∙ sym (copied-yes a.src.now a.dst.now a.at (omega arith))

@@ -1,6 +1,6 @@
 -- `store_shift::shift` meets its contract. Assumes nothing.
 use Rattle.std.proofs.Common.{sym, ◌∙◌, arith}
-use Rattle.room.specs.declared.Copied.TheVariants.{Done}
+use Rattle.std.specs.Prelude.{Ok}
 use Rattle.room.proofs.Copies.{shifted-yes, shifted_beyond, shifted-turned}
 use Rattle.store_shift.proofs.shift.Goals as goal
 
@@ -13,4 +13,4 @@ returns-then-to-from c = let a = c.args in sym (shifted-turned a.dst.now a.from 
 pub returns : goal.returns
 returns c =
     let a = c.args in
-    (λ t. (Done, c.move_down.ensures t)) ∙ sym (shifted-yes a.dst.now a.from a.to (omega arith) (omega arith))
+    (λ t. ((Ok tt), c.move_down.ensures t)) ∙ sym (shifted-yes a.dst.now a.from a.to (omega arith) (omega arith))

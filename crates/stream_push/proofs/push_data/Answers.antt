@@ -5,7 +5,8 @@ use lib.ListN.{length}
 use lib.Seq.{sets-eq}
 use Rattle.room.specs.Room.{placed}
 use Rattle.room.proofs.Copies.{copied_in}
-use Rattle.streams.specs.declared.StreamAnswer.TheVariants.{Queued}
+use Rattle.std.specs.Prelude.{Ok}
+use Rattle.streams.specs.declared.StreamPush.TheVariants.{Queued}
 use Rattle.streams.specs.Layout.{FRAME}
 use Rattle.streams.specs.Queue.{queued}
 use Rattle.streams.proofs.Cases.{next_below, data_full, data_roomy}
@@ -24,7 +25,7 @@ returns c =
     let fits : at + length b ≤ length d = omega (arith, twenty_five, next_below q c.requires.0, c.requires.1) in
     let e : c.copy_in.new.dst ≡ placed b d at = copied_in b d at c.copy_in.ensures fits ∙ sets-eq b d at fits in
     let r = e ∙ ap (λ (l : List ℕ). placed l d at) c.frame_bytes-bytes.ensures in
-    (λ t. (record { answer = Queued; queue = queued q }, r t)) ∙ data_roomy q c.args.payload d c.if-queue.false
+    (λ t. (record { answer = Ok Queued; queue = queued q }, r t)) ∙ data_roomy q c.args.payload d c.if-queue.false
 
 pub overflow_mul-next : goal.overflow_mul-next
 overflow_mul-next c = omega (arith, next_below c.args.queue c.requires.0)

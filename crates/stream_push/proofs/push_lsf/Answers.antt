@@ -5,7 +5,8 @@ use lib.ListN.{length}
 use lib.Seq.{sets-eq}
 use Rattle.room.specs.Room.{placed}
 use Rattle.room.proofs.Copies.{copied_in}
-use Rattle.streams.specs.declared.StreamAnswer.TheVariants.{LsfPending}
+use Rattle.std.specs.Prelude.{Ok}
+use Rattle.streams.specs.declared.StreamPush.TheVariants.{LsfPending}
 use Rattle.streams.specs.Queue.{LSF, with_pending}
 use Rattle.streams.proofs.Cases.{lsf_right}
 use Rattle.stream_push.proofs.Refused.{lsf_wrong}
@@ -22,4 +23,4 @@ returns c =
     let p = c.args.payload in let d = c.args.store.now in
     let fits : LSF + length p ≤ length d = omega (arith, thirty, c.requires) in
     let e : c.copy_in.new.dst ≡ placed p d LSF = copied_in p d LSF c.copy_in.ensures fits ∙ sets-eq p d LSF fits in
-    (λ t. (record { answer = LsfPending; queue = with_pending true c.args.queue }, e t)) ∙ lsf_right c.args.queue p d c.check_crc.ensures c.if-check_crc-ne0.false
+    (λ t. (record { answer = Ok LsfPending; queue = with_pending true c.args.queue }, e t)) ∙ lsf_right c.args.queue p d c.check_crc.ensures c.if-check_crc-ne0.false

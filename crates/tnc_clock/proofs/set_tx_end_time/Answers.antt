@@ -3,7 +3,7 @@ use mathlib.Core.Bool.{Bool, true, false, not, ◌&&◌, false≢true}
 use Rattle.std.proofs.Common.{◌≡◌, refl, sym, ap, ◌∙◌, arith}
 use borrow.Author.Tests.{lt-leb, le-leb}
 use Rattle.choice.specs.Pick.{pick, pick_yes, pick_no}
-use Rattle.channel.specs.declared.ChannelAnswer.TheVariants.{Done}
+use Rattle.std.specs.Prelude.{Ok}
 use Rattle.channel.proofs.Bounds.{clock_bound}
 use Rattle.tnc_core.specs.declared.Tnc.{Tnc}
 use Rattle.tnc_core.specs.Tnc.{with_radio}
@@ -42,4 +42,4 @@ returns c =
     let s = both_yes c.is_sound.ensures c.is_sound-2.ensures (ap not c.if-not-is_sound.false) in
     pick_yes _ s.0 (pick_yes _ s.1
     (pick_yes _ (le-leb _ _ c.if-in_samples-gt-FARTHEST.false)
-    (ap (λ (t : Tnc). timed Done t a.channel) (c.with_radio-ending.ensures ∙ ap (with_radio a.tnc) c.ending_at.ensures))))
+    (ap (λ (t : Tnc). timed (Ok tt) t a.channel) (c.with_radio-ending.ensures ∙ ap (with_radio a.tnc) c.ending_at.ensures))))

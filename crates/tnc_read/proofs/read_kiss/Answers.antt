@@ -5,7 +5,8 @@ use mathlib.Core.List.{List}
 use borrow.Author.Tests.{eq-eqb, ne_eqb}
 use lib.ListN.{length, take, drop, length-take}
 use Rattle.choice.specs.Pick.{pick_yes, pick_no, not_yes, not_no, and_snd}
-use Rattle.room.specs.declared.Copied.{Copied}
+use Rattle.std.specs.Prelude.{Result}
+use Rattle.room.specs.declared.NoRoom.{NoRoom}
 use Rattle.room.specs.Room.{over, copied}
 use Rattle.room.proofs.Copies.{copied_in}
 use Rattle.room.proofs.Runs.{put_front}
@@ -55,7 +56,7 @@ module _ (t : Tnc) (message target : List ℕ) (l : length message ≡ STORE) (s
       ((λ u. (record { answer = Done; count = n u; tnc = x u }, out u))
       ∙ ap {B = TncRead × List ℕ} (λ (w : HostRead × List ℕ). (has_read t w.0, w.1)) (read_sound o message target l (message_sound t s))))
 
-  comes_to : {x : Tnc} {k : Copied} {out : List ℕ} (end : ℕ) → end ≡ o.read + given o target
+  comes_to : {x : Tnc} {k : (Result (Unit {0}) NoRoom)} {out : List ℕ} (end : ℕ) → end ≡ o.read + given o target
       → (k, out) ≡ copied (take (end - o.read) (drop o.read message)) target 0 → x ≡ with_message t (read_up_to o end)
       → (record { answer = Done; count = end - o.read; tnc = x }, out) ≡ tnc_read t message target
   comes_to end h c q =
