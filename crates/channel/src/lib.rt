@@ -18,29 +18,14 @@ pub struct Channel {
 }
 
 #[derive(Clone, Copy)]
-pub enum ChannelAnswer {
-    Done,
-    OutOfRange,
-    OutOfBounds,
-}
-
-#[derive(Clone, Copy)]
 pub struct ChannelSet {
-    pub answer: ChannelAnswer,
+    pub answer: Result<(), ChannelError>,
     pub channel: Channel,
-}
-
-// What `channel_access` answers is declared here, since the definitions and promises of specs/ speak of it too.
-#[derive(Clone, Copy)]
-pub enum AccessAnswer {
-    Sends,
-    Waits,
-    OutOfBounds,
 }
 
 #[derive(Clone, Copy)]
 pub struct Accessed {
-    pub answer: AccessAnswer,
+    pub answer: Result<Access, ChannelError>,
     pub channel: Channel,
 }
 
@@ -76,19 +61,19 @@ impl Channel {
     {
         if !self.is_sound() {
             return ChannelSet {
-                answer: ChannelAnswer::OutOfBounds,
+                answer: Err(ChannelError::OutOfBounds),
                 channel: self,
             };
         }
         if LAST < now_samples {
             return ChannelSet {
-                answer: ChannelAnswer::OutOfRange,
+                answer: Err(ChannelError::OutOfRange),
                 channel: self,
             };
         }
         self.clock = now_samples;
         ChannelSet {
-            answer: ChannelAnswer::Done,
+            answer: Ok(()),
             channel: self,
         }
     }
@@ -98,13 +83,13 @@ impl Channel {
     {
         if !self.is_sound() {
             return ChannelSet {
-                answer: ChannelAnswer::OutOfBounds,
+                answer: Err(ChannelError::OutOfBounds),
                 channel: self,
             };
         }
         self.carrier = dcd;
         ChannelSet {
-            answer: ChannelAnswer::Done,
+            answer: Ok(()),
             channel: self,
         }
     }
@@ -114,13 +99,13 @@ impl Channel {
     {
         if !self.is_sound() {
             return ChannelSet {
-                answer: ChannelAnswer::OutOfBounds,
+                answer: Err(ChannelError::OutOfBounds),
                 channel: self,
             };
         }
         self.duplex = full_duplex;
         ChannelSet {
-            answer: ChannelAnswer::Done,
+            answer: Ok(()),
             channel: self,
         }
     }

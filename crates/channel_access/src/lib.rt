@@ -4,7 +4,7 @@
 ghost use Rattle.std.specs.Prelude.{true, ◌≡◌};
 ghost use Rattle.channel.specs.Access.{sound_channel, check_later, check_due, accessed};
 
-use channel::{AccessAnswer, Accessed, Channel, SLOT};
+use channel::{Access, Accessed, Channel, ChannelError, SLOT};
 
 // May somebody who has something to send start now? If not, a check waits.
 pub fn access(channel: Channel) -> Accessed
@@ -12,13 +12,13 @@ pub fn access(channel: Channel) -> Accessed
 {
     if !channel.is_sound() {
         return Accessed {
-            answer: AccessAnswer::OutOfBounds,
+            answer: Err(ChannelError::OutOfBounds),
             channel: channel,
         };
     }
     if channel.duplex {
         return Accessed {
-            answer: AccessAnswer::Sends,
+            answer: Ok(Access::Sends),
             channel: channel,
         };
     }
@@ -29,7 +29,7 @@ pub fn access(channel: Channel) -> Accessed
         return check_later(channel);
     }
     Accessed {
-        answer: AccessAnswer::Sends,
+        answer: Ok(Access::Sends),
         channel: channel,
     }
 }
@@ -41,7 +41,7 @@ fn check_due(mut channel: Channel) -> Accessed
 {
     if channel.clock < channel.check {
         return Accessed {
-            answer: AccessAnswer::Waits,
+            answer: Ok(Access::Waits),
             channel: channel,
         };
     }
@@ -53,7 +53,7 @@ fn check_due(mut channel: Channel) -> Accessed
     }
     channel.waits = false;
     Accessed {
-        answer: AccessAnswer::Sends,
+        answer: Ok(Access::Sends),
         channel: channel,
     }
 }
@@ -65,7 +65,7 @@ fn check_later(mut channel: Channel) -> Accessed
     channel.waits = true;
     channel.check = channel.clock + SLOT;
     Accessed {
-        answer: AccessAnswer::Waits,
+        answer: Ok(Access::Waits),
         channel: channel,
     }
 }

@@ -13,9 +13,9 @@ ghost use Rattle.event_packet.specs.Packet.{packet_of};
 ghost use Rattle.event_answer.specs.Answer.{answered, refused};
 ghost use Rattle.event_air.specs.Air.{of_heard};
 
+use radio::AirError;
 use event_answer::{Applied, EventBox, answer, refuse};
 use protocol::LsfFrame;
-use radio::AirAnswer;
 use tnc_receive::TncHeard;
 
 pub fn lsf(before: EventBox, body: &[u8], rx: &mut [u8], message: &mut [u8]) -> Applied
@@ -65,9 +65,9 @@ fn told(before: EventBox, heard: TncHeard) -> Applied
     let channel = before.channel;
     let given = heard.answer;
     match given {
-        AirAnswer::Done => return answer(0, 0, tnc, channel),
-        AirAnswer::OutOfRange => return answer(6, 0, tnc, channel),
-        AirAnswer::WrongStore => return answer(7, 0, tnc, channel),
-        AirAnswer::OutOfBounds => return answer(8, 0, tnc, channel),
+        Ok(()) => return answer(0, 0, tnc, channel),
+        Err(AirError::OutOfRange) => return answer(6, 0, tnc, channel),
+        Err(AirError::WrongStore) => return answer(7, 0, tnc, channel),
+        Err(AirError::OutOfBounds) => return answer(8, 0, tnc, channel),
     }
 }

@@ -4,8 +4,9 @@
 ghost use Rattle.std.specs.Prelude.{◌≡◌};
 ghost use Rattle.event_answer.specs.Answer.{on_flag, answered, refused};
 
+use room::LentError;
 use channel::Channel;
-use tnc_core::{Ptt, Tnc};
+use tnc_core::Tnc;
 
 // What the events work on, beside the stores.
 #[derive(Clone, Copy)]
@@ -45,13 +46,13 @@ pub fn answer(number: u8, count: usize, tnc: Tnc, channel: Channel) -> Applied
 }
 
 // Of a state out of bounds there is no PTT to tell, and 0 is printed. From a new TNC there is none.
-fn is_on(ptt: Ptt) -> bool
+fn is_on(ptt: Result<bool, LentError>) -> bool
     ensures { result ≡ on_flag ptt }
 {
     match ptt {
-        Ptt::Off => return false,
-        Ptt::On => return true,
-        Ptt::OutOfBounds => return false,
+        Ok(false) => return false,
+        Ok(true) => return true,
+        Err(LentError::OutOfBounds) => return false,
     }
 }
 

@@ -5,17 +5,17 @@ ghost use Rattle.std.specs.Prelude.{◌≡◌};
 ghost use Rattle.event_answer.specs.Answer.{keyed};
 ghost use Rattle.event_end.specs.End.{place_after, last_line};
 
+use event_line::LineError;
 use event_answer::EventBox;
-use event_line::Line;
 
 // The place behind a line that was to be written from index at on.
-pub fn place_after(line: Line, at: usize) -> usize
+pub fn place_after(line: Result<usize, LineError>, at: usize) -> usize
     ensures { result ≡ place_after line at }
 {
     match line {
-        Line::Wrote(next) => return next,
-        Line::NumberOver9 => return at,
-        Line::NoRoom => return at,
+        Ok(next) => return next,
+        Err(LineError::NumberOver9) => return at,
+        Err(LineError::NoRoom) => return at,
     }
 }
 

@@ -4,14 +4,6 @@
 ghost use Rattle.std.specs.Prelude.{◌≡◌, ◌+◌, ◌<◌, ◌≤◌, length};
 ghost use Rattle.event_line.specs.Line.{hex_digit, tail_of, stored, fits, written};
 
-#[derive(Clone, Copy)]
-pub enum Line {
-    // The place behind the line.
-    Wrote(usize),
-    NumberOver9,
-    NoRoom,
-}
-
 const BLANK: u8 = 0x20;
 
 const NEWLINE: u8 = 0x0A;
@@ -21,17 +13,17 @@ const ZERO: u8 = 0x30;
 const LETTER: u8 = 0x41;
 
 // Puts the line of an event into dst from index at on. Where it is not written dst is left as it is.
-pub fn put_line(kind: u8, number: u8, ptt: bool, bytes: &[u8], dst: &mut [u8], at: usize) -> Line
+pub fn put_line(kind: u8, number: u8, ptt: bool, bytes: &[u8], dst: &mut [u8], at: usize) -> Result<usize, LineError>
     ensures { (result, dst.new) ≡ written kind number ptt bytes.now dst.old at }
 {
     if 9 < number {
-        return Line::NumberOver9;
+        return Err(LineError::NumberOver9);
     }
     if dst.len() < at {
-        return Line::NoRoom;
+        return Err(LineError::NoRoom);
     }
     if !line_fits(bytes.len(), dst.len() - at) {
-        return Line::NoRoom;
+        return Err(LineError::NoRoom);
     }
     let head = [
         hex_digit(kind / 16),
@@ -42,7 +34,7 @@ pub fn put_line(kind: u8, number: u8, ptt: bool, bytes: &[u8], dst: &mut [u8], a
         ZERO + (ptt as u8),
     ];
     store::copy_in(&head, dst, at);
-    Line::Wrote(write_tail(bytes, dst, at + 6))
+    Ok(write_tail(bytes, dst, at + 6))
 }
 
 // Without bytes a line has 7, else 8 and two digits for each byte. Divided here, since twice a length may be no number.

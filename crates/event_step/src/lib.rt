@@ -15,10 +15,10 @@ ghost use Rattle.tnc.specs.Calls.{tnc_written};
 ghost use Rattle.tnc_read.specs.Calls.{tnc_read};
 ghost use Rattle.event_step.specs.Host.{of_write, of_read};
 
-use channel::ChannelAnswer;
+use room::LentError;
+use kiss_calls::WriteError;
+use channel::ChannelError;
 use event_answer::{Applied, EventBox, MOST_BYTES, answer, refuse};
-use kiss_calls::WriteAnswer;
-use outgoing::HostAnswer;
 
 // What has a place in seven bytes, so that another byte leaves no more than eight.
 const SEVEN_BYTES: u64 = 72057594037927936;
@@ -75,14 +75,14 @@ fn host_byte(
     answer(write_number(given), 0, tnc_after, channel_after)
 }
 
-fn write_number(answer: WriteAnswer) -> u8
+fn write_number(answer: Result<usize, WriteError>) -> u8
     ensures { result ≡ write_number answer }
 {
     match answer {
         WriteAnswer::Done => 0,
-        WriteAnswer::Full => 5,
-        WriteAnswer::WrongStore => 7,
-        WriteAnswer::OutOfBounds => 8,
+        Err(WriteError::Full) => 5,
+        Err(WriteError::WrongStore) => 7,
+        Err(WriteError::OutOfBounds) => 8,
     }
 }
 
@@ -119,13 +119,13 @@ fn end_time(before: EventBox, body: &[u8]) -> Applied
     answer(set_number(given), 0, set.tnc, set.channel)
 }
 
-fn set_number(answer: ChannelAnswer) -> u8
+fn set_number(answer: Result<(), ChannelError>) -> u8
     ensures { result ≡ set_number answer }
 {
     match answer {
-        ChannelAnswer::Done => return 0,
-        ChannelAnswer::OutOfRange => return 6,
-        ChannelAnswer::OutOfBounds => return 8,
+        Ok(()) => return 0,
+        Err(ChannelError::OutOfRange) => return 6,
+        Err(ChannelError::OutOfBounds) => return 8,
     }
 }
 
@@ -161,12 +161,12 @@ fn read_host(before: EventBox, body: &[u8], message: &[u8], bytes: &mut [u8]) ->
     answer(host_number(given), read.count, tnc_after, channel)
 }
 
-fn host_number(answer: HostAnswer) -> u8
+fn host_number(answer: Result<usize, LentError>) -> u8
     ensures { result ≡ host_number answer }
 {
     match answer {
         HostAnswer::Done => 0,
-        HostAnswer::WrongStore => 7,
-        HostAnswer::OutOfBounds => 8,
+        Err(LentError::WrongStore) => 7,
+        Err(LentError::OutOfBounds) => 8,
     }
 }

@@ -3,9 +3,10 @@
 
 ghost use Rattle.std.specs.Prelude.{◌≡◌, ℕ, ◌<◌, get_or};
 
-use channel::{AccessAnswer, Channel};
-use kiss_calls::{KissBuffer, NextAnswer};
-use lich::{LichCollection, SegmentAnswer};
+use room::LentError;
+use channel::{Access, Channel, ChannelError};
+use kiss_calls::KissBuffer;
+use lich::{LichCollection, LichError};
 use protocol::LsfFrame;
 use std::io;
 use std::io::Write;
@@ -73,9 +74,9 @@ fn lich_line<W: Write>(target: &mut W, name: &str, index: u8) -> io::Result<()> 
     let set = LichCollection::new().set_segment(index, [0u8; 5]);
     let answer = set.answer;
     let number = match answer {
-        SegmentAnswer::Done => 0,
-        SegmentAnswer::IndexOver5 => 6,
-        SegmentAnswer::OutOfBounds => 8,
+        Ok(()) => 0,
+        Err(LichError::IndexOver5) => 6,
+        Err(LichError::OutOfBounds) => 8,
     };
     writeln!(target, "{name}: {number}")
 }
@@ -105,19 +106,19 @@ fn fed(reader: KissBuffer, byte: u8, store: &mut [u8; 1713]) -> Answered {
     let buffer = next.buffer;
     let answer = next.answer;
     match answer {
-        NextAnswer::Frame(_) => Answered {
+        Ok(Some(_)) => Answered {
             frames: 1,
             buffer: buffer,
         },
-        NextAnswer::Nothing => Answered {
+        Ok(None) => Answered {
             frames: 0,
             buffer: buffer,
         },
-        NextAnswer::WrongStore => Answered {
+        Err(LentError::WrongStore) => Answered {
             frames: 7,
             buffer: buffer,
         },
-        NextAnswer::OutOfBounds => Answered {
+        Err(LentError::OutOfBounds) => Answered {
             frames: 8,
             buffer: buffer,
         },
@@ -138,8 +139,8 @@ fn channel_line<W: Write>(target: &mut W, name: &str, before: Channel) -> io::Re
     let after = channel_access::access(before);
     let answer = after.answer;
     match answer {
-        AccessAnswer::Sends => writeln!(target, "{name}: sends"),
-        AccessAnswer::Waits => writeln!(target, "{name}: checks at {}", after.channel.check),
-        AccessAnswer::OutOfBounds => writeln!(target, "{name}: 8"),
+        Ok(Access::Sends) => writeln!(target, "{name}: sends"),
+        Ok(Access::Waits) => writeln!(target, "{name}: checks at {}", after.channel.check),
+        Err(ChannelError::OutOfBounds) => writeln!(target, "{name}: 8"),
     }
 }

@@ -6,30 +6,17 @@ ghost use Rattle.host_frame.specs.Frame.{obeyed_on, obeyed, frame_taken};
 ghost use Rattle.host_frame.specs.Data.{with_packets, with_streams, data_taken};
 ghost use Rattle.host_frame.specs.Setting.{setting_in, delay_set, duplex_of};
 
+use room::LentError;
 use host_record::{Host, stores_fit};
 use kiss_header::{command, port};
-use kiss_layout::{CommandRead, Decoded, KissCommand, PortRead};
+use kiss_layout::{KissCommand, KissError};
 use kiss_read::decode_payload;
 use packets::PacketQueue;
 use streams::StreamQueue;
 
-// The first byte of a setting's payload.
-#[derive(Clone, Copy)]
-pub enum Setting {
-    Value(u8),
-    Nothing,
-}
-
-#[derive(Clone, Copy)]
-pub enum FrameAnswer {
-    Done,
-    WrongStore,
-    OutOfBounds,
-}
-
 #[derive(Clone, Copy)]
 pub struct FrameTaken {
-    pub answer: FrameAnswer,
+    pub answer: Result<(), LentError>,
     pub host: Host,
 }
 
@@ -38,21 +25,21 @@ pub fn take_frame(host: Host, frame: &[u8], packets: &mut [u8], streams: &mut [u
     ensures { (result, packets.new, streams.new) ≡ frame_taken host frame.now packets.old streams.old }
 {
     if !stores_fit(packets.len(), streams.len()) {
-        return answered(host, FrameAnswer::WrongStore);
+        return answered(host, Err(LentError::WrongStore));
     }
     if !host.is_sound() {
-        return answered(host, FrameAnswer::OutOfBounds);
+        return answered(host, Err(LentError::OutOfBounds));
     }
     let after = obey(host, frame, packets, streams);
-    answered(after, FrameAnswer::Done)
+    answered(after, Ok(()))
 }
 
 fn obey(host: Host, frame: &[u8], packets: &mut [u8], streams: &mut [u8]) -> Host
     ensures { (result, packets.new, streams.new) ≡ obeyed host frame.now packets.old streams.old }
 {
     match port(frame) {
-        PortRead::MalformedKissFrame => host,
-        PortRead::Port(number) => obey_on(host, number, frame, packets, streams),
+        Err(KissError::MalformedKissFrame) => host,
+        Ok(number) => obey_on(host, number, frame, packets, streams),
     }
 }
 
@@ -63,9 +50,9 @@ fn obey_on(host: Host, number: u8, frame: &[u8], packets: &mut [u8], streams: &m
         return host;
     }
     match command(frame) {
-        CommandRead::MalformedKissFrame => host,
-        CommandRead::UnsupportedKissCommand => host,
-        CommandRead::Command(kind) => match kind {
+        Err(KissError::MalformedKissFrame) => host,
+        Err(KissError::UnsupportedKissCommand) => host,
+        Ok(kind) => match kind {
             KissCommand::DataFrame => take_data(host, number, frame, packets, streams),
             KissCommand::TxDelay => set_tx_delay(host, frame),
             KissCommand::P => host,
@@ -117,8 +104,8 @@ fn set_tx_delay(mut host: Host, frame: &[u8]) -> Host
     ensures { result ≡ delay_set (setting_in frame.now) host }
 {
     match read_setting(frame) {
-        Setting::Nothing => host,
-        Setting::Value(byte) => {
+        None => host,
+        Some(byte) => {
             let mut sending = host.sending;
             sending.tx_delay = byte;
             host.sending = sending;
@@ -132,8 +119,8 @@ fn set_full_duplex(mut host: Host, frame: &[u8]) -> Host
     ensures { result ≡ duplex_of (setting_in frame.now) host }
 {
     match read_setting(frame) {
-        Setting::Nothing => host,
-        Setting::Value(byte) => {
+        None => host,
+        Some(byte) => {
             let channel = host.channel;
             let set = channel.set_full_duplex(byte != 0);
             let after = set.channel;
@@ -143,23 +130,23 @@ fn set_full_duplex(mut host: Host, frame: &[u8]) -> Host
     }
 }
 
-fn read_setting(frame: &[u8]) -> Setting
+fn read_setting(frame: &[u8]) -> Option<u8>
     ensures { result ≡ setting_in frame.now }
 {
     let mut room = [0u8; 1];
     match decode_payload(frame, &mut room) {
-        Decoded::MalformedKissFrame => Setting::Nothing,
-        Decoded::Payload(n) => {
+        Err(KissError::MalformedKissFrame) => None,
+        Ok(n) => {
             if n == 0 {
-                Setting::Nothing
+                None
             } else {
-                Setting::Value(room[0])
+                Some(room[0])
             }
         }
     }
 }
 
-fn answered(host: Host, answer: FrameAnswer) -> FrameTaken
+fn answered(host: Host, answer: Result<(), LentError>) -> FrameTaken
     ensures { result ≡ record { answer = answer; host = host } }
 {
     FrameTaken {

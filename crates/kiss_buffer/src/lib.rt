@@ -7,7 +7,7 @@ ghost use Rattle.kiss_reader.specs.Reader.{STORE};
 ghost use Rattle.kiss_calls.specs.Calls.{sound_buffer, written};
 ghost use Rattle.kiss_calls.specs.Inside.{accepted, room_made};
 
-use kiss_calls::{KissBuffer, MAX_FRAME_LEN, WriteAnswer, Written};
+use kiss_calls::{KissBuffer, MAX_FRAME_LEN, WriteError, Written};
 use kiss_scan::{holds_frame, settle_at};
 use kiss_sound::is_sound;
 
@@ -18,14 +18,14 @@ pub fn write(buffer: KissBuffer, offered: &[u8], store: &mut [u8]) -> Written
 {
     if store.len() != MAX_FRAME_LEN {
         return Written {
-            answer: WriteAnswer::WrongStore,
+            answer: Err(WriteError::WrongStore),
             count: 0,
             buffer: buffer,
         };
     }
     if !is_sound(buffer, store) {
         return Written {
-            answer: WriteAnswer::OutOfBounds,
+            answer: Err(WriteError::OutOfBounds),
             count: 0,
             buffer: buffer,
         };
@@ -33,7 +33,7 @@ pub fn write(buffer: KissBuffer, offered: &[u8], store: &mut [u8]) -> Written
     let kept = make_room(buffer, store);
     if kept == MAX_FRAME_LEN {
         return Written {
-            answer: WriteAnswer::Full,
+            answer: Err(WriteError::Full),
             count: 0,
             buffer: buffer,
         };

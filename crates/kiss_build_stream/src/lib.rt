@@ -5,7 +5,7 @@ ghost use Rattle.std.specs.Prelude.{◌≡◌};
 ghost use Rattle.kiss_layout.specs.Build.{built, stream_setup, stream_data};
 
 use kiss_frame::put_frame;
-use kiss_layout::{Built, PORT_STREAM};
+use kiss_layout::{BuildError, PORT_STREAM};
 use kiss_stream::checked_content;
 use protocol::StreamFrame;
 
@@ -13,17 +13,17 @@ use protocol::StreamFrame;
 const STREAM_HEADER: u8 = PORT_STREAM * 16;
 
 // Request to begin a stream.
-pub fn new_stream_setup(lsf: &[u8], room: &mut [u8]) -> Built
+pub fn new_stream_setup(lsf: &[u8], room: &mut [u8]) -> Result<usize, BuildError>
     ensures { (result, room.new) ≡ built (stream_setup lsf.now) room.old }
 {
     if lsf.len() != 30 {
-        return Built::LsfWrongSize;
+        return Err(BuildError::LsfWrongSize);
     }
     put_frame(STREAM_HEADER, b"", lsf, room)
 }
 
 // Request to transmit a part of a stream.
-pub fn new_stream_data(frame: StreamFrame, room: &mut [u8]) -> Built
+pub fn new_stream_data(frame: StreamFrame, room: &mut [u8]) -> Result<usize, BuildError>
     ensures { (result, room.new) ≡ built (stream_data frame) room.old }
 {
     let content = checked_content(frame);
@@ -31,5 +31,5 @@ pub fn new_stream_data(frame: StreamFrame, room: &mut [u8]) -> Built
         let bytes = content.bytes;
         return put_frame(STREAM_HEADER, b"", &bytes, room);
     }
-    Built::OutOfRange
+    Err(BuildError::OutOfRange)
 }

@@ -6,6 +6,8 @@ ghost use Rattle.std.specs.Prelude.{◌≡◌};
 ghost use Rattle.kiss_reader.specs.Reader.{new_reader};
 ghost use Rattle.kiss_calls.specs.Calls.{buffer_of};
 
+use room::LentError;
+
 // Room for the longest frame that a builder writes: 2 * 855 bytes of content, a header and two FENDs.
 pub const MAX_FRAME_LEN: usize = 1713;
 
@@ -19,32 +21,15 @@ pub struct KissBuffer {
 }
 
 #[derive(Clone, Copy)]
-pub enum WriteAnswer {
-    Done,
-    Full,
-    WrongStore,
-    OutOfBounds,
-}
-
-#[derive(Clone, Copy)]
 pub struct Written {
-    pub answer: WriteAnswer,
+    pub answer: Result<usize, WriteError>,
     pub count: usize,
     pub buffer: KissBuffer,
 }
 
 #[derive(Clone, Copy)]
-pub enum NextAnswer {
-    // A whole frame of that many bytes stands at the store's start.
-    Frame(usize),
-    Nothing,
-    WrongStore,
-    OutOfBounds,
-}
-
-#[derive(Clone, Copy)]
 pub struct NextFrame {
-    pub answer: NextAnswer,
+    pub answer: Result<Option<usize>, LentError>,
     pub buffer: KissBuffer,
 }
 

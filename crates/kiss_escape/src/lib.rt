@@ -7,24 +7,25 @@ ghost use Rattle.choice.specs.Pick.{pick};
 ghost use Rattle.room.specs.Room.{over};
 ghost use Rattle.kiss_layout.specs.Escape.{FEND, TFEND, TFESC, esc, escaped};
 
+use room::NoRoom;
 use block_load::load16;
 use block_none::none_of;
 use block_store::store16;
-use kiss_layout::{Escaped, FEND, FESC, TFEND, TFESC};
+use kiss_layout::{FEND, FESC, TFEND, TFESC};
 use kiss_length::escaped_len;
 
 // Writes src, escaped, at the start of dst. Where it does not fit, dst is left as it is.
-pub fn escape(src: &[u8], dst: &mut [u8]) -> Escaped
+pub fn escape(src: &[u8], dst: &mut [u8]) -> Result<usize, NoRoom>
     ensures { (result, dst.new) ≡ escaped src.now dst.old }
 {
     // twice its bytes is room enough for whatever src is, so nothing is counted
     if dst.len() / 2 < src.len() {
         if dst.len() < escaped_len(src) {
-            return Escaped::NoRoom;
+            return Err(NoRoom);
         }
     }
     let n = put_escaped(src, dst);
-    Escaped::Wrote(n)
+    Ok(n)
 }
 
 // Writes src, escaped, at the start of dst, which has the room for it, and returns how many bytes that took. Eight bytes are done one by one before whole

@@ -6,12 +6,13 @@ ghost use Rattle.std.proofs.lemmas.List.Edits.{sets};
 ghost use Rattle.kiss_layout.specs.Escape.{esc};
 ghost use Rattle.kiss_layout.specs.Frame.{frame, put_frame};
 
+use room::NoRoom;
 use kiss_escape::escape;
-use kiss_layout::{Built, Escaped, FEND};
+use kiss_layout::{BuildError, FEND};
 use kiss_length::escaped_len;
 
 // Writes FEND, the header, first and second escaped, FEND at the start of room. Where they do not fit, room is left as it is.
-pub fn put_frame(header: u8, first: &[u8], second: &[u8], room: &mut [u8]) -> Built
+pub fn put_frame(header: u8, first: &[u8], second: &[u8], room: &mut [u8]) -> Result<usize, BuildError>
     ensures { (result, room.new) ≡ put_frame (frame header (first.now ++ second.now)) room.old }
 {
     if frame_fits(first, second, room.len()) {
@@ -20,9 +21,9 @@ pub fn put_frame(header: u8, first: &[u8], second: &[u8], room: &mut [u8]) -> Bu
         let at = 2 + put_content(first, room, 2);
         let end = at + put_content(second, room, at);
         room[end] = FEND;
-        return Built::Frame(end + 1);
+        return Ok(end + 1);
     }
-    Built::NoRoom
+    Err(BuildError::NoRoom)
 }
 
 // Whether a frame of both contents fits into a room of len bytes. Twice the contents are room enough whatever they are, so there nothing is counted. What the
@@ -49,7 +50,7 @@ fn put_content(src: &[u8], room: &mut [u8], at: usize) -> usize
     ensures { (result ≡ length (esc src.now)) × (room.new ≡ sets room.old at (esc src.now)) }
 {
     match escape(src, &mut room[at..]) {
-        Escaped::Wrote(n) => n,
-        Escaped::NoRoom => 0,
+        Ok(n) => n,
+        Err(NoRoom) => 0,
     }
 }

@@ -5,19 +5,19 @@ ghost use Rattle.std.specs.Prelude.{◌≡◌};
 ghost use Rattle.kiss_layout.specs.Read.{command_number, port_read, command_for, command_read};
 
 use kiss_fend::leading_fends;
-use kiss_layout::{CommandRead, KissCommand, PortRead};
+use kiss_layout::{KissCommand, KissError};
 
 // A nibble as a command.
-fn from_proto(value: u8) -> CommandRead
+fn from_proto(value: u8) -> Result<KissCommand, KissError>
     ensures { result ≡ command_for value }
 {
     match value {
-        0 => CommandRead::Command(KissCommand::DataFrame),
-        1 => CommandRead::Command(KissCommand::TxDelay),
-        2 => CommandRead::Command(KissCommand::P),
-        5 => CommandRead::Command(KissCommand::FullDuplex),
-        3..=4 => CommandRead::UnsupportedKissCommand,
-        6..=255 => CommandRead::UnsupportedKissCommand,
+        0 => Ok(KissCommand::DataFrame),
+        1 => Ok(KissCommand::TxDelay),
+        2 => Ok(KissCommand::P),
+        5 => Ok(KissCommand::FullDuplex),
+        3..=4 => Err(KissError::UnsupportedKissCommand),
+        6..=255 => Err(KissError::UnsupportedKissCommand),
     }
 }
 
@@ -33,22 +33,22 @@ pub fn proto_value(command: KissCommand) -> u8
 }
 
 // The frame's port. Only 0, 1 and 2 mean something to the TNC.
-pub fn port(frame: &[u8]) -> PortRead
+pub fn port(frame: &[u8]) -> Result<u8, KissError>
     ensures { result ≡ port_read frame.now }
 {
     let at = leading_fends(frame);
     if frame.len() <= at {
-        return PortRead::MalformedKissFrame;
+        return Err(KissError::MalformedKissFrame);
     }
-    PortRead::Port(frame[at] / 16)
+    Ok(frame[at] / 16)
 }
 
-pub fn command(frame: &[u8]) -> CommandRead
+pub fn command(frame: &[u8]) -> Result<KissCommand, KissError>
     ensures { result ≡ command_read frame.now }
 {
     let at = leading_fends(frame);
     if frame.len() <= at {
-        return CommandRead::MalformedKissFrame;
+        return Err(KissError::MalformedKissFrame);
     }
     from_proto(frame[at] % 16)
 }

@@ -16,13 +16,6 @@ pub const PORT_PACKET_FULL: u8 = 1;
 
 pub const PORT_STREAM: u8 = 2;
 
-// What `escape` answers: how many bytes it wrote, or that they do not fit.
-#[derive(Clone, Copy)]
-pub enum Escaped {
-    Wrote(usize),
-    NoRoom,
-}
-
 #[derive(Clone, Copy)]
 pub enum KissCommand {
     DataFrame,
@@ -31,32 +24,3 @@ pub enum KissCommand {
     FullDuplex,
 }
 
-#[derive(Clone, Copy)]
-pub enum PortRead {
-    Port(u8),
-    MalformedKissFrame,
-}
-
-#[derive(Clone, Copy)]
-pub enum CommandRead {
-    Command(KissCommand),
-    MalformedKissFrame,
-    UnsupportedKissCommand,
-}
-
-// What `decode_payload` answers: how many bytes of the room it counted, or that the frame has no header or no end.
-#[derive(Clone, Copy)]
-pub enum Decoded {
-    Payload(usize),
-    MalformedKissFrame,
-}
-
-// What a builder answers: the length of the frame that it wrote, or why it wrote none.
-#[derive(Clone, Copy)]
-pub enum Built {
-    Frame(usize),
-    PayloadTooBig,
-    LsfWrongSize,
-    OutOfRange,
-    NoRoom,
-}

@@ -4,7 +4,8 @@
 ghost use Rattle.std.specs.Prelude.{◌≡◌};
 ghost use Rattle.kiss_calls.specs.Calls.{next_frame};
 
-use kiss_calls::{KissBuffer, MAX_FRAME_LEN, NextAnswer, NextFrame};
+use room::LentError;
+use kiss_calls::{KissBuffer, MAX_FRAME_LEN, NextFrame};
 use kiss_scan::{front_len, settle_at};
 use kiss_sound::is_sound;
 
@@ -15,13 +16,13 @@ pub fn next_frame(buffer: KissBuffer, store: &mut [u8]) -> NextFrame
 {
     if store.len() != MAX_FRAME_LEN {
         return NextFrame {
-            answer: NextAnswer::WrongStore,
+            answer: Err(LentError::WrongStore),
             buffer: buffer,
         };
     }
     if !is_sound(buffer, store) {
         return NextFrame {
-            answer: NextAnswer::OutOfBounds,
+            answer: Err(LentError::OutOfBounds),
             buffer: buffer,
         };
     }
@@ -33,7 +34,7 @@ pub fn next_frame(buffer: KissBuffer, store: &mut [u8]) -> NextFrame
     let held = filled - at;
     if len == 0 {
         return NextFrame {
-            answer: NextAnswer::Nothing,
+            answer: Ok(None),
             buffer: KissBuffer {
                 filled: held,
                 taken: false,
@@ -41,7 +42,7 @@ pub fn next_frame(buffer: KissBuffer, store: &mut [u8]) -> NextFrame
         };
     }
     NextFrame {
-        answer: NextAnswer::Frame(len),
+        answer: Ok(Some(len)),
         buffer: KissBuffer {
             filled: held,
             taken: true,

@@ -4,23 +4,23 @@
 ghost use Rattle.std.specs.Prelude.{◌≡◌};
 ghost use Rattle.kiss_layout.specs.Read.{decoded};
 
+use kiss_layout::KissError;
 use kiss_fend::{leading_fends, to_fend};
-use kiss_layout::Decoded;
 use kiss_unescape::unescape;
 
 // Writes what stands between the header and the next FEND, unescaped, at the start of out.
-pub fn decode_payload(frame: &[u8], out: &mut [u8]) -> Decoded
+pub fn decode_payload(frame: &[u8], out: &mut [u8]) -> Result<usize, KissError>
     ensures { (result, out.new) ≡ decoded frame.now out.old }
 {
     let at = leading_fends(frame);
     if frame.len() <= at {
-        return Decoded::MalformedKissFrame;
+        return Err(KissError::MalformedKissFrame);
     }
     let start = at + 1;
     let len = to_fend(&frame[start..]);
     if frame.len() - start <= len {
-        return Decoded::MalformedKissFrame;
+        return Err(KissError::MalformedKissFrame);
     }
     let end = start + len;
-    Decoded::Payload(unescape(&frame[start..end], out))
+    Ok(unescape(&frame[start..end], out))
 }

@@ -7,21 +7,21 @@ ghost use Rattle.kiss_settings.specs.Setting.{setting};
 
 use kiss_frame::put_frame;
 use kiss_header::proto_value;
-use kiss_layout::{Built, KissCommand};
+use kiss_layout::{BuildError, KissCommand};
 
-pub fn new_set_tx_delay(port: u8, units: u8, room: &mut [u8]) -> Built
+pub fn new_set_tx_delay(port: u8, units: u8, room: &mut [u8]) -> Result<usize, BuildError>
     ensures { (result, room.new) ≡ built (set_tx_delay port units) room.old }
 {
     put_setting(port, KissCommand::TxDelay, units, room)
 }
 
-pub fn new_set_p(port: u8, units: u8, room: &mut [u8]) -> Built
+pub fn new_set_p(port: u8, units: u8, room: &mut [u8]) -> Result<usize, BuildError>
     ensures { (result, room.new) ≡ built (persistence port units) room.old }
 {
     put_setting(port, KissCommand::P, units, room)
 }
 
-pub fn set_full_duplex(port: u8, full_duplex: bool, room: &mut [u8]) -> Built
+pub fn set_full_duplex(port: u8, full_duplex: bool, room: &mut [u8]) -> Result<usize, BuildError>
     ensures { (result, room.new) ≡ built (set_full_duplex port full_duplex) room.old }
 {
     if full_duplex {
@@ -31,11 +31,11 @@ pub fn set_full_duplex(port: u8, full_duplex: bool, room: &mut [u8]) -> Built
 }
 
 // A frame of one byte for any of the 16 ports. The byte may be FEND or FESC, so it is escaped as any content is.
-fn put_setting(port: u8, command: KissCommand, value: u8, room: &mut [u8]) -> Built
+fn put_setting(port: u8, command: KissCommand, value: u8, room: &mut [u8]) -> Result<usize, BuildError>
     ensures { (result, room.new) ≡ setting port command value room.old }
 {
     if 15 < port {
-        return Built::OutOfRange;
+        return Err(BuildError::OutOfRange);
     }
     put_frame(port * 16 + proto_value(command), b"", &[value], room)
 }

@@ -12,35 +12,15 @@ pub struct LichCollection {
 }
 
 #[derive(Clone, Copy)]
-pub enum ValidSegments {
-    Count(usize),
-    OutOfBounds,
-}
-
-#[derive(Clone, Copy)]
-pub enum SegmentAnswer {
-    Done,
-    IndexOver5,
-    OutOfBounds,
-}
-
-#[derive(Clone, Copy)]
 pub struct SegmentSet {
-    pub answer: SegmentAnswer,
+    pub answer: Result<(), LichError>,
     pub collection: LichCollection,
-}
-
-#[derive(Clone, Copy)]
-pub enum Assembly {
-    Whole,
-    Missing,
-    OutOfBounds,
 }
 
 // The 30 bytes are all zero unless the answer is `Whole`.
 #[derive(Clone, Copy)]
 pub struct Assembled {
-    pub answer: Assembly,
+    pub answer: Result<Option<[u8; 30]>, LichError>,
     pub bytes: [u8; 30],
 }
 
@@ -55,14 +35,14 @@ impl LichCollection {
     }
 
     // How many of the six segments have been heard.
-    pub fn valid_segments(self) -> ValidSegments
+    pub fn valid_segments(self) -> Result<usize, LichError>
         ensures { result ≡ valid_segments self }
     {
         let mask = self.mask;
         if 64 <= mask {
-            return ValidSegments::OutOfBounds;
+            return Err(LichError::OutOfBounds);
         }
-        ValidSegments::Count(u8::count_ones(mask) as usize)
+        Ok(u8::count_ones(mask) as usize)
     }
 
     pub fn set_segment(mut self, counter: u8, part: [u8; 5]) -> SegmentSet
@@ -70,13 +50,13 @@ impl LichCollection {
     {
         if 64 <= self.mask {
             return SegmentSet {
-                answer: SegmentAnswer::OutOfBounds,
+                answer: Err(LichError::OutOfBounds),
                 collection: self,
             };
         }
         if 5 < counter {
             return SegmentSet {
-                answer: SegmentAnswer::IndexOver5,
+                answer: Err(LichError::IndexOver5),
                 collection: self,
             };
         }
@@ -86,7 +66,7 @@ impl LichCollection {
         self.segments = segments;
         self.mask = self.mask | (1u8 << counter);
         SegmentSet {
-            answer: SegmentAnswer::Done,
+            answer: Ok(()),
             collection: self,
         }
     }
@@ -96,11 +76,11 @@ impl LichCollection {
         ensures { result ≡ assembled self }
     {
         match self.valid_segments() {
-            ValidSegments::OutOfBounds => return Assembled {
-                answer: Assembly::OutOfBounds,
+            Err(LichError::OutOfBounds) => return Assembled {
+                answer: Err(LichError::OutOfBounds),
                 bytes: [0u8; 30],
             },
-            ValidSegments::Count(n) => {
+            Ok(n) => {
                 if n == 6 {
                     let bytes = self.segments;
                     return Assembled {
@@ -109,7 +89,7 @@ impl LichCollection {
                     };
                 }
                 return Assembled {
-                    answer: Assembly::Missing,
+                    answer: Ok(None),
                     bytes: [0u8; 30],
                 };
             }

@@ -5,8 +5,9 @@ ghost use Rattle.std.specs.Prelude.{◌≡◌};
 ghost use Rattle.kiss_calls.specs.Calls.{write_number};
 ghost use Rattle.link_numbers.specs.Numbers.{escape_count, build_count, kept, next_count};
 
-use kiss_calls::{KissBuffer, NextAnswer, WriteAnswer, Written};
-use kiss_layout::{Built, Escaped};
+use room::{LentError, NoRoom};
+use kiss_layout::BuildError;
+use kiss_calls::{KissBuffer, WriteError, Written};
 
 // A number of document 01, and how many bytes where it is 0.
 #[repr(C)]
@@ -33,42 +34,42 @@ pub struct ReaderAnswer {
     pub reader: Reader,
 }
 
-pub fn escape_count(answer: Escaped) -> Counted
+pub fn escape_count(answer: Result<usize, NoRoom>) -> Counted
     ensures { result ≡ escape_count answer }
 {
     match answer {
-        Escaped::Wrote(n) => return Counted {
+        Ok(n) => return Counted {
             number: 0,
             count: n,
         },
-        Escaped::NoRoom => return Counted {
+        Err(NoRoom) => return Counted {
             number: 7,
             count: 0,
         },
     }
 }
 
-pub fn build_count(answer: Built) -> Counted
+pub fn build_count(answer: Result<usize, BuildError>) -> Counted
     ensures { result ≡ build_count answer }
 {
     match answer {
-        Built::Frame(n) => return Counted {
+        Ok(n) => return Counted {
             number: 0,
             count: n,
         },
-        Built::PayloadTooBig => return Counted {
+        Err(BuildError::PayloadTooBig) => return Counted {
             number: 1,
             count: 0,
         },
-        Built::LsfWrongSize => return Counted {
+        Err(BuildError::LsfWrongSize) => return Counted {
             number: 2,
             count: 0,
         },
-        Built::OutOfRange => return Counted {
+        Err(BuildError::OutOfRange) => return Counted {
             number: 6,
             count: 0,
         },
-        Built::NoRoom => return Counted {
+        Err(BuildError::NoRoom) => return Counted {
             number: 7,
             count: 0,
         },
@@ -90,17 +91,17 @@ pub fn write_count(written: Written) -> ReaderAnswer
             count: count,
             reader: kept,
         },
-        WriteAnswer::Full => return ReaderAnswer {
+        Err(WriteError::Full) => return ReaderAnswer {
             number: 5,
             count: count,
             reader: kept,
         },
-        WriteAnswer::WrongStore => return ReaderAnswer {
+        Err(WriteError::WrongStore) => return ReaderAnswer {
             number: 7,
             count: count,
             reader: kept,
         },
-        WriteAnswer::OutOfBounds => return ReaderAnswer {
+        Err(WriteError::OutOfBounds) => return ReaderAnswer {
             number: 8,
             count: count,
             reader: kept,
@@ -108,7 +109,7 @@ pub fn write_count(written: Written) -> ReaderAnswer
     }
 }
 
-pub fn next_count(answer: NextAnswer, after: KissBuffer) -> ReaderAnswer
+pub fn next_count(answer: Result<Option<usize>, LentError>, after: KissBuffer) -> ReaderAnswer
     ensures { result ≡ next_count answer after }
 {
     let kept = Reader {
@@ -116,22 +117,22 @@ pub fn next_count(answer: NextAnswer, after: KissBuffer) -> ReaderAnswer
         taken: after.taken,
     };
     match answer {
-        NextAnswer::Frame(n) => return ReaderAnswer {
+        Ok(Some(n)) => return ReaderAnswer {
             number: 0,
             count: n,
             reader: kept,
         },
-        NextAnswer::Nothing => return ReaderAnswer {
+        Ok(None) => return ReaderAnswer {
             number: 0,
             count: 0,
             reader: kept,
         },
-        NextAnswer::WrongStore => return ReaderAnswer {
+        Err(LentError::WrongStore) => return ReaderAnswer {
             number: 7,
             count: 0,
             reader: kept,
         },
-        NextAnswer::OutOfBounds => return ReaderAnswer {
+        Err(LentError::OutOfBounds) => return ReaderAnswer {
             number: 8,
             count: 0,
             reader: kept,

@@ -5,7 +5,7 @@ ghost use Rattle.std.specs.Prelude.{◌≡◌};
 ghost use Rattle.link_ready.specs.Ready.{link_fits, was_taken};
 
 use host_record::stores_fit;
-use kiss_calls::{MAX_FRAME_LEN, WriteAnswer};
+use kiss_calls::{MAX_FRAME_LEN, WriteError};
 
 // The test of all lengths, which two calls make.
 pub fn link_fits(reader: usize, packets: usize, streams: usize) -> bool
@@ -17,13 +17,13 @@ pub fn link_fits(reader: usize, packets: usize, streams: usize) -> bool
     stores_fit(packets, streams)
 }
 
-pub fn was_taken(answer: WriteAnswer) -> bool
+pub fn was_taken(answer: Result<usize, WriteError>) -> bool
     ensures { result ≡ was_taken answer }
 {
     match answer {
         WriteAnswer::Done => true,
-        WriteAnswer::Full => false,
-        WriteAnswer::WrongStore => false,
-        WriteAnswer::OutOfBounds => false,
+        Err(WriteError::Full) => false,
+        Err(WriteError::WrongStore) => false,
+        Err(WriteError::OutOfBounds) => false,
     }
 }

@@ -4,6 +4,8 @@
 ghost use Rattle.std.specs.Prelude.{◌≡◌};
 ghost use Rattle.outgoing.specs.Message.{no_message, sound_message};
 
+use room::LentError;
+
 // How long the message is, and how much of it has been read. No message: both are 0.
 #[repr(C)]
 #[derive(Clone, Copy)]
@@ -13,15 +15,8 @@ pub struct Outgoing {
 }
 
 #[derive(Clone, Copy)]
-pub enum HostAnswer {
-    Done,
-    WrongStore,
-    OutOfBounds,
-}
-
-#[derive(Clone, Copy)]
 pub struct HostRead {
-    pub answer: HostAnswer,
+    pub answer: Result<usize, LentError>,
     pub count: usize,
     pub outgoing: Outgoing,
 }

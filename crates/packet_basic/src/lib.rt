@@ -7,10 +7,10 @@ ghost use Rattle.packets.specs.Frames.{zeros};
 ghost use Rattle.packets.specs.Queue.{ROOM, pushed_basic};
 ghost use Rattle.packet_basic.specs.Inside.{is_payload, decoded_at, sealed_at};
 
-use kiss_layout::Decoded;
+use kiss_layout::{KissError, PushError};
 use kiss_read::decode_payload;
 use packet_push::accepted;
-use packets::{PacketQueue, PushAnswer, Pushed, ROOM_LEN, STORE_LEN};
+use packets::{PacketQueue, Push, Pushed, ROOM_LEN, STORE_LEN};
 use protocol::LsfFrame;
 
 // What a packet of port 0 leaves of its data for the payload: without the type byte and the CRC.
@@ -24,28 +24,28 @@ pub fn push_basic(queue: PacketQueue, frame: &[u8], store: &mut [u8]) -> Pushed
     ensures { (result, store.new) ≡ pushed_basic queue frame.now store.old }
 {
     if store.len() != STORE_LEN {
-        return answered(queue, PushAnswer::WrongStore);
+        return answered(queue, Err(PushError::WrongStore));
     }
     if !queue.is_sound() {
-        return answered(queue, PushAnswer::OutOfBounds);
+        return answered(queue, Err(PushError::OutOfBounds));
     }
     if queue.full {
-        return answered(queue, PushAnswer::Ignored);
+        return answered(queue, Ok(Push::Ignored));
     }
     if !has_payload(frame) {
-        return answered(queue, PushAnswer::MalformedKissFrame);
+        return answered(queue, Err(PushError::MalformedKissFrame));
     }
     let room = ROOM_LEN * queue.next;
     let n = decode_into(frame, store, room);
     if MAX_BASIC_LEN < n {
         store::copy_in(&[0u8; 855], store, room);
-        return answered(queue, PushAnswer::Ignored);
+        return answered(queue, Ok(Push::Ignored));
     }
     seal(store, room, n);
     accepted(queue, n + 3)
 }
 
-fn answered(queue: PacketQueue, answer: PushAnswer) -> Pushed
+fn answered(queue: PacketQueue, answer: Result<Push, PushError>) -> Pushed
     ensures { result ≡ record { answer = answer; queue = queue } }
 {
     Pushed {
@@ -60,8 +60,8 @@ fn has_payload(frame: &[u8]) -> bool
 {
     let mut room = [0u8; 1];
     match decode_payload(frame, &mut room) {
-        Decoded::Payload(_) => true,
-        Decoded::MalformedKissFrame => false,
+        Ok(_) => true,
+        Err(KissError::MalformedKissFrame) => false,
     }
 }
 
@@ -74,8 +74,8 @@ fn decode_into(frame: &[u8], store: &mut [u8], at: usize) -> usize
     let from = at + 31;
     let end = at + ROOM_LEN;
     match decode_payload(frame, &mut store[from..end]) {
-        Decoded::Payload(n) => n,
-        Decoded::MalformedKissFrame => 0,
+        Ok(n) => n,
+        Err(KissError::MalformedKissFrame) => 0,
     }
 }
 

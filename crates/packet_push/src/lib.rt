@@ -4,7 +4,8 @@
 ghost use Rattle.std.specs.Prelude.{◌≡◌};
 ghost use Rattle.packet_push.specs.Accepted.{accepted_as};
 
-use packets::{PacketQueue, Place, PushAnswer, Pushed};
+use kiss_layout::PushError;
+use packets::{PacketQueue, Place, Push, Pushed};
 
 // One packet more waits, with len bytes of data.
 pub fn accepted(mut queue: PacketQueue, len: usize) -> Pushed
@@ -13,7 +14,7 @@ pub fn accepted(mut queue: PacketQueue, len: usize) -> Pushed
     let at = queue.next;
     if 4 <= at {
         return Pushed {
-            answer: PushAnswer::OutOfBounds,
+            answer: Err(PushError::OutOfBounds),
             queue: queue,
         };
     }
@@ -26,7 +27,7 @@ pub fn accepted(mut queue: PacketQueue, len: usize) -> Pushed
     queue.next = next;
     queue.full = next == queue.curr;
     Pushed {
-        answer: PushAnswer::Queued,
+        answer: Ok(Push::Queued),
         queue: queue,
     }
 }

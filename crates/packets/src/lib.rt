@@ -5,6 +5,7 @@
 ghost use Rattle.std.specs.Prelude.{◌≡◌};
 ghost use Rattle.packets.specs.Queue.{sound_queue, is_empty};
 
+use kiss_layout::PushError;
 use protocol::{LsfFrame, PacketFrame};
 
 // The bytes of a packet's data, type and CRC among them.
@@ -36,19 +37,9 @@ pub struct PacketQueue {
     pub full: bool,
 }
 
-// The answers of pushes and reads are declared here and not in the crates of the calls, since the definitions and promises of specs/ speak of them too.
-#[derive(Clone, Copy)]
-pub enum PushAnswer {
-    Queued,
-    Ignored,
-    MalformedKissFrame,
-    WrongStore,
-    OutOfBounds,
-}
-
 #[derive(Clone, Copy)]
 pub struct Pushed {
-    pub answer: PushAnswer,
+    pub answer: Result<Push, PushError>,
     pub queue: PacketQueue,
 }
 

@@ -6,8 +6,9 @@
 
 ghost use Rattle.std.specs.Prelude.{◌<◌, ◌≤◌, ◌≡◌, length};
 
-use kiss_calls::{KissBuffer, NextAnswer, NextFrame, WriteAnswer, Written};
-use kiss_layout::{Built, CommandRead, Decoded, Escaped, PortRead};
+use room::{LentError, NoRoom};
+use kiss_layout::{BuildError, KissError};
+use kiss_calls::{KissBuffer, NextFrame, WriteError, Written};
 use protocol::StreamFrame;
 use std::io;
 use std::io::{Read, Write};
@@ -188,7 +189,7 @@ fn ask(
     told(reader, built(build(kind, a, b, room)))
 }
 
-fn build(kind: u8, a: &[u8], b: &[u8], room: &mut [u8]) -> Built {
+fn build(kind: u8, a: &[u8], b: &[u8], room: &mut [u8]) -> Result<usize, BuildError> {
     let port = at(a, 0);
     let value = at(a, 1);
     match kind {
@@ -202,13 +203,13 @@ fn build(kind: u8, a: &[u8], b: &[u8], room: &mut [u8]) -> Built {
     }
 }
 
-fn built(r: Built) -> usize {
+fn built(r: Result<usize, BuildError>) -> usize {
     match r {
-        Built::Frame(n) => n,
-        Built::PayloadTooBig => PAYLOAD_TOO_BIG,
-        Built::LsfWrongSize => LSF_WRONG_SIZE,
-        Built::OutOfRange => OUT_OF_RANGE,
-        Built::NoRoom => NO_ROOM,
+        Ok(n) => n,
+        Err(BuildError::PayloadTooBig) => PAYLOAD_TOO_BIG,
+        Err(BuildError::LsfWrongSize) => LSF_WRONG_SIZE,
+        Err(BuildError::OutOfRange) => OUT_OF_RANGE,
+        Err(BuildError::NoRoom) => NO_ROOM,
     }
 }
 
@@ -241,21 +242,21 @@ fn bytes(kind: u8, a: &[u8], room: &mut [u8]) -> usize {
     match kind {
         8 => return crc::m17_crc(a) as usize,
         9 => match kiss_header::port(a) {
-            PortRead::Port(n) => return n as usize,
-            PortRead::MalformedKissFrame => return MALFORMED,
+            Ok(n) => return n as usize,
+            Err(KissError::MalformedKissFrame) => return MALFORMED,
         },
         10 => match kiss_header::command(a) {
-            CommandRead::Command(c) => return kiss_header::proto_value(c) as usize,
-            CommandRead::MalformedKissFrame => return MALFORMED,
-            CommandRead::UnsupportedKissCommand => return UNSUPPORTED,
+            Ok(c) => return kiss_header::proto_value(c) as usize,
+            Err(KissError::MalformedKissFrame) => return MALFORMED,
+            Err(KissError::UnsupportedKissCommand) => return UNSUPPORTED,
         },
         11 => match kiss_read::decode_payload(a, room) {
-            Decoded::Payload(n) => return n,
-            Decoded::MalformedKissFrame => return MALFORMED,
+            Ok(n) => return n,
+            Err(KissError::MalformedKissFrame) => return MALFORMED,
         },
         12 => match kiss_escape::escape(a, room) {
-            Escaped::Wrote(n) => return n,
-            Escaped::NoRoom => return NO_ROOM,
+            Ok(n) => return n,
+            Err(NoRoom) => return NO_ROOM,
         },
         13 => return kiss_unescape::unescape(a, room),
         // The one value that no room bounds.
@@ -309,9 +310,9 @@ fn write_number(w: Written) -> usize {
     let answer = w.answer;
     match answer {
         WriteAnswer::Done => w.count,
-        WriteAnswer::Full => FULL,
-        WriteAnswer::WrongStore => NO_ROOM,
-        WriteAnswer::OutOfBounds => OUT_OF_BOUNDS,
+        Err(WriteError::Full) => FULL,
+        Err(WriteError::WrongStore) => NO_ROOM,
+        Err(WriteError::OutOfBounds) => OUT_OF_BOUNDS,
     }
 }
 
@@ -319,9 +320,9 @@ fn write_number(w: Written) -> usize {
 fn next_number(next: NextFrame) -> usize {
     let answer = next.answer;
     match answer {
-        NextAnswer::Frame(n) => n,
-        NextAnswer::Nothing => 0,
-        NextAnswer::WrongStore => NO_ROOM,
-        NextAnswer::OutOfBounds => OUT_OF_BOUNDS,
+        Ok(Some(n)) => n,
+        Ok(None) => 0,
+        Err(LentError::WrongStore) => NO_ROOM,
+        Err(LentError::OutOfBounds) => OUT_OF_BOUNDS,
     }
 }

@@ -3,7 +3,7 @@
 // thirty bytes, the LSF or in front its meta field, else zero. A request that is cut ends the program.
 #![tactic(auto)]
 
-use lich::{Assembled, Assembly, LichCollection, SegmentAnswer, SegmentSet, ValidSegments};
+use lich::{Assembled, LichCollection, LichError, SegmentSet};
 use protocol::{DataType, EncryptionType, LsfFrame, Mode};
 use std::io;
 use std::io::{Read, Write};
@@ -167,16 +167,16 @@ fn lich_step(kind: u8, index: u8, bytes: [u8; 30], lich: LichCollection) -> Sess
 fn segment_number(set: SegmentSet) -> usize {
     let answer = set.answer;
     match answer {
-        SegmentAnswer::Done => 0,
-        SegmentAnswer::IndexOver5 => OUT_OF_RANGE,
-        SegmentAnswer::OutOfBounds => OUT_OF_BOUNDS,
+        Ok(()) => 0,
+        Err(LichError::IndexOver5) => OUT_OF_RANGE,
+        Err(LichError::OutOfBounds) => OUT_OF_BOUNDS,
     }
 }
 
 fn heard(lich: LichCollection) -> usize {
     match lich.valid_segments() {
-        ValidSegments::Count(k) => k,
-        ValidSegments::OutOfBounds => OUT_OF_BOUNDS,
+        Ok(k) => k,
+        Err(LichError::OutOfBounds) => OUT_OF_BOUNDS,
     }
 }
 
@@ -184,7 +184,7 @@ fn assembled(r: Assembled) -> usize {
     let answer = r.answer;
     match answer {
         Assembly::Whole => 30,
-        Assembly::Missing => 0,
-        Assembly::OutOfBounds => OUT_OF_BOUNDS,
+        Ok(None) => 0,
+        Err(LichError::OutOfBounds) => OUT_OF_BOUNDS,
     }
 }

@@ -19,16 +19,8 @@ pub struct Radio {
 }
 
 #[derive(Clone, Copy)]
-pub enum AirAnswer {
-    Done,
-    OutOfRange,
-    WrongStore,
-    OutOfBounds,
-}
-
-#[derive(Clone, Copy)]
 pub struct Heard {
-    pub answer: AirAnswer,
+    pub answer: Result<(), AirError>,
     pub radio: Radio,
 }
 
@@ -56,7 +48,7 @@ impl Radio {
     {
         let outgoing = self.outgoing;
         Heard {
-            answer: AirAnswer::Done,
+            answer: Ok(()),
             radio: Radio {
                 state: state,
                 outgoing: outgoing,

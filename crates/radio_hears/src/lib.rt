@@ -4,24 +4,24 @@
 ghost use Rattle.std.specs.Prelude.{◌≡◌};
 ghost use Rattle.radio.specs.Radio.{hears_by};
 
-use radio::{AirAnswer, Hears, MESSAGE_STORE_LEN, RX_STORE_LEN, Radio};
+use radio::{AirError, Hears, MESSAGE_STORE_LEN, RX_STORE_LEN, Radio};
 
 // The four tests of every call: the two stores, by their lengths, the record, and whether we send. While we send, what is heard is our own.
 pub fn hears(radio: Radio, rx: usize, out: usize) -> Hears
     ensures { result ≡ hears_by radio rx out }
 {
     if rx != RX_STORE_LEN {
-        return Hears::Answer(AirAnswer::WrongStore);
+        return Hears::Answer(Err(AirError::WrongStore));
     }
     if out != MESSAGE_STORE_LEN {
-        return Hears::Answer(AirAnswer::WrongStore);
+        return Hears::Answer(Err(AirError::WrongStore));
     }
     if !radio.is_sound() {
-        return Hears::Answer(AirAnswer::OutOfBounds);
+        return Hears::Answer(Err(AirError::OutOfBounds));
     }
     let state = radio.state;
     if state.ptt() {
-        return Hears::Answer(AirAnswer::Done);
+        return Hears::Answer(Ok(()));
     }
     Hears::Frame
 }

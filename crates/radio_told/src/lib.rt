@@ -4,25 +4,25 @@
 ghost use Rattle.std.specs.Prelude.{◌≡◌};
 ghost use Rattle.radio_told.specs.Inside.{told_of};
 
-use kiss_layout::Built;
+use kiss_layout::BuildError;
 use outgoing::Outgoing;
-use radio::{AirAnswer, Heard, Radio};
+use radio::{Heard, Radio};
 use state::State;
 
 // The radio in a state, with the message that was built. A frame of ours always fits into the store, so there always is one.
-pub fn told(state: State, built: Built) -> Heard
+pub fn told(state: State, built: Result<usize, BuildError>) -> Heard
     ensures { result ≡ told_of state built }
 {
     match built {
-        Built::Frame(len) => return Heard {
-            answer: AirAnswer::Done,
+        Ok(len) => return Heard {
+            answer: Ok(()),
             radio: Radio {
                 state: state,
                 outgoing: Outgoing { len: len, read: 0 },
             },
         },
         _ => return Heard {
-            answer: AirAnswer::Done,
+            answer: Ok(()),
             radio: Radio {
                 state: state,
                 outgoing: Outgoing { len: 0, read: 0 },

@@ -2,8 +2,3 @@
 // What a call answers: that it is done, or that the store has no such place.
 #![tactic(auto)]
 
-#[derive(Clone, Copy)]
-pub enum Copied {
-    Done,
-    NoRoom,
-}

@@ -5,20 +5,21 @@ ghost use Rattle.std.specs.Prelude.{◌≡◌, ◌+◌, ◌≤◌, length};
 ghost use Rattle.std.proofs.lemmas.List.Edits.{sets};
 ghost use Rattle.room.specs.Room.{copied};
 
-use room::Copied;
+use room::NoRoom;
+
 
 // Puts src into dst from index at on. Where it does not fit, dst is left as it is.
-pub fn copy_in(src: &[u8], dst: &mut [u8], at: usize) -> Copied
+pub fn copy_in(src: &[u8], dst: &mut [u8], at: usize) -> Result<(), NoRoom>
     ensures { (result, dst.new) ≡ copied src.now dst.old at }
 {
     if dst.len() < at {
-        return Copied::NoRoom;
+        return Err(NoRoom);
     }
     if dst.len() - at < src.len() {
-        return Copied::NoRoom;
+        return Err(NoRoom);
     }
     put(src, dst, at);
-    Copied::Done
+    Ok(())
 }
 
 fn put(src: &[u8], dst: &mut [u8], at: usize)

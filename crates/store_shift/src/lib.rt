@@ -4,20 +4,21 @@
 ghost use Rattle.std.specs.Prelude.{◌≡◌, ◌+◌, ◌≤◌, length, take, drop};
 ghost use Rattle.room.specs.Room.{over, shifted};
 
-use room::Copied;
+use room::NoRoom;
+
 
 // Moves the bytes from index from up to index to to the start of dst. Where dst has no such bytes, it is left as it is.
-pub fn shift(dst: &mut [u8], from: usize, to: usize) -> Copied
+pub fn shift(dst: &mut [u8], from: usize, to: usize) -> Result<(), NoRoom>
     ensures { (result, dst.new) ≡ shifted dst.old from to }
 {
     if dst.len() < to {
-        return Copied::NoRoom;
+        return Err(NoRoom);
     }
     if to < from {
-        return Copied::NoRoom;
+        return Err(NoRoom);
     }
     move_down(dst, from, to - from);
-    Copied::Done
+    Ok(())
 }
 
 fn move_down(dst: &mut [u8], by: usize, count: usize)

@@ -4,13 +4,11 @@
 ghost use Rattle.std.specs.Prelude.{true, ◌≡◌, length};
 ghost use Rattle.streams.specs.Queue.{STORE, sound_queue, data_pushed, lsf_pushed, pushed};
 
-use kiss_layout::Decoded;
+use kiss_layout::{KissError, PushError};
 use kiss_read::decode_payload;
 use protocol::LsfFrame;
 use stream_bytes::frame_bytes;
-use streams::{
-    FRAME_LEN, LSF_AT, PLACES, STREAM_STORE_LEN, StreamAnswer, StreamPushed, StreamQueue,
-};
+use streams::{FRAME_LEN, LSF_AT, PLACES, STREAM_STORE_LEN, StreamPush, StreamPushed, StreamQueue};
 
 // Up to 25 bytes are no stream data. Both bounds are one number, so that no length lies between them.
 const MAX_IGNORED_LEN: usize = 25;
@@ -22,17 +20,17 @@ pub fn push(queue: StreamQueue, frame: &[u8], store: &mut [u8]) -> StreamPushed
     ensures { (result, store.new) ≡ pushed queue frame.now store.old }
 {
     if store.len() != STREAM_STORE_LEN {
-        return unchanged(StreamAnswer::WrongStore, queue);
+        return unchanged(Err(PushError::WrongStore), queue);
     }
     if !queue.is_sound() {
-        return unchanged(StreamAnswer::OutOfBounds, queue);
+        return unchanged(Err(PushError::OutOfBounds), queue);
     }
     let mut payload = [0u8; 30];
     let decoded = decode_payload(frame, &mut payload);
     match decoded {
-        Decoded::MalformedKissFrame => unchanged(StreamAnswer::MalformedKissFrame, queue),
-        Decoded::Payload(n) => match n {
-            0..=MAX_IGNORED_LEN => unchanged(StreamAnswer::Ignored, queue),
+        Err(KissError::MalformedKissFrame) => unchanged(Err(PushError::MalformedKissFrame), queue),
+        Ok(n) => match n {
+            0..=MAX_IGNORED_LEN => unchanged(Ok(StreamPush::Ignored), queue),
             MIN_DATA_LEN..=29 => push_data(queue, payload, store),
             // 30: the room has no more, and longer payloads are cut to it.
             _ => push_lsf(queue, payload, store),
@@ -46,7 +44,7 @@ fn push_data(mut queue: StreamQueue, payload: [u8; 30], store: &mut [u8]) -> Str
     ensures { (result, store.new) ≡ data_pushed queue payload store.old }
 {
     if queue.full {
-        return unchanged(StreamAnswer::Ignored, queue);
+        return unchanged(Ok(StreamPush::Ignored), queue);
     }
     let next = queue.next;
     let bytes = frame_bytes(payload);
@@ -55,7 +53,7 @@ fn push_data(mut queue: StreamQueue, payload: [u8; 30], store: &mut [u8]) -> Str
     queue.full = after == queue.curr;
     queue.next = after;
     StreamPushed {
-        answer: StreamAnswer::Queued,
+        answer: Ok(StreamPush::Queued),
         queue: queue,
     }
 }
@@ -66,17 +64,17 @@ fn push_lsf(mut queue: StreamQueue, payload: [u8; 30], store: &mut [u8]) -> Stre
     ensures { (result, store.new) ≡ lsf_pushed queue payload store.old }
 {
     if lsf_frame::check_crc(LsfFrame(payload)) != 0 {
-        return unchanged(StreamAnswer::Ignored, queue);
+        return unchanged(Ok(StreamPush::Ignored), queue);
     }
     store::copy_in(&payload, store, LSF_AT);
     queue.pending = true;
     StreamPushed {
-        answer: StreamAnswer::LsfPending,
+        answer: Ok(StreamPush::LsfPending),
         queue: queue,
     }
 }
 
-fn unchanged(answer: StreamAnswer, queue: StreamQueue) -> StreamPushed
+fn unchanged(answer: Result<StreamPush, PushError>, queue: StreamQueue) -> StreamPushed
     ensures { result ≡ record { answer = answer; queue = queue } }
 {
     StreamPushed {

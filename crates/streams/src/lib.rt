@@ -6,6 +6,7 @@
 ghost use Rattle.std.specs.Prelude.{◌≡◌};
 ghost use Rattle.streams.specs.Queue.{sound_queue, empty_queue};
 
+use kiss_layout::PushError;
 use protocol::{LsfFrame, StreamFrame};
 
 pub const STREAM_STORE_LEN: usize = 230;
@@ -28,20 +29,9 @@ pub struct StreamQueue {
     pub pending: bool,
 }
 
-// The answers of pushes and reads are declared here and not in `stream_push` and `stream_read`, since the definitions and promises of specs/ speak of them too.
-#[derive(Clone, Copy)]
-pub enum StreamAnswer {
-    Queued,
-    LsfPending,
-    Ignored,
-    MalformedKissFrame,
-    WrongStore,
-    OutOfBounds,
-}
-
 #[derive(Clone, Copy)]
 pub struct StreamPushed {
-    pub answer: StreamAnswer,
+    pub answer: Result<StreamPush, PushError>,
     pub queue: StreamQueue,
 }
 

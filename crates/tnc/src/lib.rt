@@ -14,13 +14,13 @@ ghost use Rattle.tnc.specs.Bytes.{onward, kiss_written};
 
 use channel::Channel;
 use host_record::Host;
-use kiss_calls::{KissBuffer, WriteAnswer};
+use kiss_calls::{KissBuffer, WriteError};
 use link_ready::{link_fits, was_taken};
 use tnc_core::Tnc;
 
 #[derive(Clone, Copy)]
 pub struct KissWritten {
-    pub answer: WriteAnswer,
+    pub answer: Result<usize, WriteError>,
     // How many of the offered bytes were taken.
     pub count: usize,
     pub buffer: KissBuffer,
@@ -29,7 +29,7 @@ pub struct KissWritten {
 
 #[derive(Clone, Copy)]
 pub struct TncWritten {
-    pub answer: WriteAnswer,
+    pub answer: Result<usize, WriteError>,
     // How many of the offered bytes were taken.
     pub count: usize,
     pub tnc: Tnc,
@@ -48,13 +48,13 @@ pub fn write_kiss(
     ensures { (result, reader.new, packets.new, streams.new) ≡ tnc_written tnc channel buf.now reader.old packets.old streams.old }
 {
     if !link_fits(reader.len(), packets.len(), streams.len()) {
-        return not_written(WriteAnswer::WrongStore, tnc, channel);
+        return not_written(Err(WriteError::WrongStore), tnc, channel);
     }
     if !tnc.is_sound() {
-        return not_written(WriteAnswer::OutOfBounds, tnc, channel);
+        return not_written(Err(WriteError::OutOfBounds), tnc, channel);
     }
     if !channel.is_sound() {
-        return not_written(WriteAnswer::OutOfBounds, tnc, channel);
+        return not_written(Err(WriteError::OutOfBounds), tnc, channel);
     }
     let buffer = tnc.buffer;
     let written = kiss_buffer::write(buffer, buf, reader);
@@ -107,7 +107,7 @@ fn take_frames(
     }
 }
 
-fn not_written(answer: WriteAnswer, tnc: Tnc, channel: Channel) -> TncWritten
+fn not_written(answer: Result<usize, WriteError>, tnc: Tnc, channel: Channel) -> TncWritten
     ensures { result ≡ not_written answer tnc channel }
 {
     TncWritten {

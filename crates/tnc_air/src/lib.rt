@@ -9,7 +9,7 @@ ghost use Rattle.tnc_air.specs.Collected.{collected_at};
 
 use kiss_build::new_full_packet;
 use protocol::{PacketFrame, PacketFrameCounter};
-use radio::{AirAnswer, Heard, Hears, RX_STORE_LEN, Radio};
+use radio::{AirError, Heard, Hears, RX_STORE_LEN, Radio};
 use radio_hears::hears;
 use radio_told::told;
 use state::{Reception, State};
@@ -62,7 +62,7 @@ fn collect_after(
 {
     if rx.len() != RX_STORE_LEN {
         return Heard {
-            answer: AirAnswer::WrongStore,
+            answer: Err(AirError::WrongStore),
             radio: radio,
         };
     }
@@ -83,7 +83,7 @@ fn finish(radio: Radio, len: usize, payload: [u8; 25], rx: &mut [u8], out: &mut 
 {
     if 25 < len {
         return Heard {
-            answer: AirAnswer::OutOfRange,
+            answer: Err(AirError::OutOfRange),
             radio: radio,
         };
     }

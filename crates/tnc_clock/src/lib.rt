@@ -5,14 +5,14 @@ ghost use Rattle.std.specs.Prelude.{◌≡◌};
 ghost use Rattle.tnc_clock.specs.Clock.{in_state, now_set, end_time_set};
 ghost use Rattle.state.specs.State.{time_reached, ending_at};
 
-use channel::{Channel, ChannelAnswer};
+use channel::{Channel, ChannelError};
 use radio::Radio;
 use state::State;
 use tnc_core::Tnc;
 
 #[derive(Clone, Copy)]
 pub struct Timed {
-    pub answer: ChannelAnswer,
+    pub answer: Result<(), ChannelError>,
     pub tnc: Tnc,
     pub channel: Channel,
 }
@@ -25,7 +25,7 @@ pub fn set_now(tnc: Tnc, channel: Channel, now_samples: u64) -> Timed
 {
     if !tnc.is_sound() {
         return Timed {
-            answer: ChannelAnswer::OutOfBounds,
+            answer: Err(ChannelError::OutOfBounds),
             tnc: tnc,
             channel: channel,
         };
@@ -34,10 +34,10 @@ pub fn set_now(tnc: Tnc, channel: Channel, now_samples: u64) -> Timed
     let answer = set.answer;
     let after = set.channel;
     match answer {
-        ChannelAnswer::Done => {
+        Ok(()) => {
             let reached = tnc.with_radio(at_time(tnc.radio, now_samples));
             return Timed {
-                answer: ChannelAnswer::Done,
+                answer: Ok(()),
                 tnc: reached,
                 channel: after,
             };
@@ -58,21 +58,21 @@ pub fn set_tx_end_time(tnc: Tnc, channel: Channel, in_samples: u64) -> Timed
 {
     if !(tnc.is_sound() & channel.is_sound()) {
         return Timed {
-            answer: ChannelAnswer::OutOfBounds,
+            answer: Err(ChannelError::OutOfBounds),
             tnc: tnc,
             channel: channel,
         };
     }
     if FARTHEST < in_samples {
         return Timed {
-            answer: ChannelAnswer::OutOfRange,
+            answer: Err(ChannelError::OutOfRange),
             tnc: tnc,
             channel: channel,
         };
     }
     let ending = tnc.with_radio(ending_at(tnc.radio, channel.clock + in_samples));
     Timed {
-        answer: ChannelAnswer::Done,
+        answer: Ok(()),
         tnc: ending,
         channel: channel,
     }

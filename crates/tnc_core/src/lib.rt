@@ -4,6 +4,7 @@
 ghost use Rattle.std.specs.Prelude.{◌≡◌};
 ghost use Rattle.tnc_core.specs.Tnc.{sound_tnc, ptt_of, with_radio};
 
+use room::LentError;
 use kiss_calls::{KissBuffer, MAX_FRAME_LEN};
 use radio::Radio;
 use sending::Sending;
@@ -16,13 +17,6 @@ pub struct Tnc {
     // The state, and the message to the host.
     pub radio: Radio,
     pub ptt: bool,
-}
-
-#[derive(Clone, Copy)]
-pub enum Ptt {
-    Off,
-    On,
-    OutOfBounds,
 }
 
 impl Tnc {
@@ -39,16 +33,16 @@ impl Tnc {
     }
 
     // Should PTT be on right now?
-    pub fn ptt(self) -> Ptt
+    pub fn ptt(self) -> Result<bool, LentError>
         ensures { result ≡ ptt_of self }
     {
         if !self.is_sound() {
-            return Ptt::OutOfBounds;
+            return Err(LentError::OutOfBounds);
         }
         if self.ptt {
-            return Ptt::On;
+            return Ok(true);
         }
-        Ptt::Off
+        Ok(false)
     }
 
     // The same with another radio: PTT is on exactly in its transmit states.

@@ -5,13 +5,13 @@ ghost use Rattle.std.specs.Prelude.{◌≡◌};
 ghost use Rattle.tnc_read.specs.Calls.{not_read, tnc_read};
 ghost use Rattle.outgoing.specs.Message.{read_up_to};
 
-use outgoing::HostAnswer;
+use room::LentError;
 use radio::{MESSAGE_STORE_LEN, Radio};
 use tnc_core::Tnc;
 
 #[derive(Clone, Copy)]
 pub struct TncRead {
-    pub answer: HostAnswer,
+    pub answer: Result<usize, LentError>,
     pub count: usize,
     pub tnc: Tnc,
 }
@@ -21,10 +21,10 @@ pub fn read_kiss(tnc: Tnc, message: &[u8], target: &mut [u8]) -> TncRead
     ensures { (result, target.new) ≡ tnc_read tnc message.now target.old }
 {
     if message.len() != MESSAGE_STORE_LEN {
-        return not_read(HostAnswer::WrongStore, tnc);
+        return not_read(Err(LentError::WrongStore), tnc);
     }
     if !tnc.is_sound() {
-        return not_read(HostAnswer::OutOfBounds, tnc);
+        return not_read(Err(LentError::OutOfBounds), tnc);
     }
     let from = tnc.radio.outgoing.read;
     let mut end = tnc.radio.outgoing.len;
@@ -52,7 +52,7 @@ fn read_up_to(mut radio: Radio, end: usize) -> Radio
     radio
 }
 
-fn not_read(answer: HostAnswer, tnc: Tnc) -> TncRead
+fn not_read(answer: Result<usize, LentError>, tnc: Tnc) -> TncRead
     ensures { result ≡ not_read answer tnc }
 {
     TncRead {

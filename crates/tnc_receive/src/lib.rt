@@ -8,12 +8,12 @@ ghost use Rattle.air_lsf.specs.Begun.{lsf_heard};
 ghost use Rattle.tnc_air.specs.Heard.{packet_heard};
 
 use protocol::{LsfFrame, PacketFrame, StreamFrame};
-use radio::{AirAnswer, Heard, Hears, MESSAGE_STORE_LEN, RX_STORE_LEN};
+use radio::{AirError, Heard, Hears, MESSAGE_STORE_LEN, RX_STORE_LEN};
 use tnc_core::Tnc;
 
 #[derive(Clone, Copy)]
 pub struct TncHeard {
-    pub answer: AirAnswer,
+    pub answer: Result<(), AirError>,
     pub tnc: Tnc,
 }
 
@@ -70,13 +70,13 @@ fn hears(tnc: Tnc, rx: usize, message: usize) -> Hears
     ensures { result ≡ hears_by tnc rx message }
 {
     if rx != RX_STORE_LEN {
-        return Hears::Answer(AirAnswer::WrongStore);
+        return Hears::Answer(Err(AirError::WrongStore));
     }
     if message != MESSAGE_STORE_LEN {
-        return Hears::Answer(AirAnswer::WrongStore);
+        return Hears::Answer(Err(AirError::WrongStore));
     }
     if !tnc.is_sound() {
-        return Hears::Answer(AirAnswer::OutOfBounds);
+        return Hears::Answer(Err(AirError::OutOfBounds));
     }
     Hears::Frame
 }

@@ -10,9 +10,9 @@ ghost use Rattle.tnc_stream.specs.Acquired.{acquired_with};
 ghost use Rattle.tnc_stream.specs.Followed.{followed};
 
 use kiss_build_stream::{new_stream_data, new_stream_setup};
-use lich::{Assembly, LichCollection};
+use lich::{LichCollection, LichError};
 use protocol::{LsfFrame, StreamFrame};
-use radio::{AirAnswer, Heard, Hears, Radio};
+use radio::{AirError, Heard, Hears, Radio};
 use radio_hears::hears;
 use radio_told::told;
 use state::{Reception, State};
@@ -29,13 +29,13 @@ pub fn handle_stream(radio: Radio, frame: StreamFrame, rx: &mut [u8], out: &mut 
         Hears::Frame => {
             if 5 < frame.lich_idx {
                 return Heard {
-                    answer: AirAnswer::OutOfRange,
+                    answer: Err(AirError::OutOfRange),
                     radio: radio,
                 };
             }
             if 32767 < frame.frame_number {
                 return Heard {
-                    answer: AirAnswer::OutOfRange,
+                    answer: Err(AirError::OutOfRange),
                     radio: radio,
                 };
             }
@@ -98,8 +98,8 @@ fn complete(radio: Radio, collection: LichCollection, number: u16, out: &mut [u8
             let built = new_stream_setup(&lsf, out);
             return told(State::RxStream(number + 1), built);
         }
-        Assembly::Missing => return radio.turned(State::RxAcquiringStream(collection.mask)),
-        Assembly::OutOfBounds => return radio.turned(State::RxAcquiringStream(collection.mask)),
+        Ok(None) => return radio.turned(State::RxAcquiringStream(collection.mask)),
+        Err(LichError::OutOfBounds) => return radio.turned(State::RxAcquiringStream(collection.mask)),
     }
 }
 

@@ -4,7 +4,7 @@
 ghost use Rattle.std.specs.Prelude.{◌≡◌};
 ghost use Rattle.tx_begin.specs.Begin.{keyed_up, begun};
 
-use channel::{AccessAnswer, Channel};
+use channel::{Access, Channel, ChannelError};
 use protocol::LsfFrame;
 use sending::Sending;
 use state::State;
@@ -20,9 +20,9 @@ pub fn begin(state: State, sending: Sending, channel: Channel) -> TxRead
     let access = channel_access::access(channel);
     let answer = access.answer;
     match answer {
-        AccessAnswer::Sends => return key_up(sending, access.channel),
-        AccessAnswer::Waits => return unfilled(TxAnswer::Nothing, state, sending, access.channel),
-        AccessAnswer::OutOfBounds => return unfilled(
+        Ok(Access::Sends) => return key_up(sending, access.channel),
+        Ok(Access::Waits) => return unfilled(TxAnswer::Nothing, state, sending, access.channel),
+        Err(ChannelError::OutOfBounds) => return unfilled(
             TxAnswer::OutOfBounds,
             state,
             sending,
