@@ -17,10 +17,23 @@ pub struct Channel {
     pub duplex: bool,
 }
 
+#[derive(Clone, Copy, Debug, PartialEq, Eq)]
+pub enum ChannelError {
+    OutOfRange,
+    OutOfBounds,
+}
+
 #[derive(Clone, Copy)]
 pub struct ChannelSet {
     pub answer: Result<(), ChannelError>,
     pub channel: Channel,
+}
+
+// What `channel_access` answers is declared here, since the definitions and promises of specs/ speak of it too.
+#[derive(Clone, Copy, Debug, PartialEq, Eq)]
+pub enum Access {
+    Sends,
+    Waits,
 }
 
 #[derive(Clone, Copy)]

@@ -26,10 +26,6 @@ pub fn new_stream_setup(lsf: &[u8], room: &mut [u8]) -> Result<usize, BuildError
 pub fn new_stream_data(frame: StreamFrame, room: &mut [u8]) -> Result<usize, BuildError>
     ensures { (result, room.new) ≡ built (stream_data frame) room.old }
 {
-    let content = checked_content(frame);
-    if content.valid {
-        let bytes = content.bytes;
-        return put_frame(STREAM_HEADER, b"", &bytes, room);
-    }
-    Err(BuildError::OutOfRange)
+    let content = checked_content(frame).ok_or(BuildError::OutOfRange)?;
+    put_frame(STREAM_HEADER, b"", &content, room)
 }

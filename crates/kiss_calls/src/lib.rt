@@ -20,12 +20,22 @@ pub struct KissBuffer {
     pub taken: bool,
 }
 
+// Why a write took nothing: the store is full and holds a whole frame, or what was lent is not a reader's.
+#[derive(Clone, Copy, Debug, PartialEq, Eq)]
+pub enum WriteError {
+    Full,
+    WrongStore,
+    OutOfBounds,
+}
+
+// How many of the offered bytes were taken.
 #[derive(Clone, Copy)]
 pub struct Written {
     pub answer: Result<usize, WriteError>,
-    pub count: usize,
     pub buffer: KissBuffer,
 }
+
+// The length of the frame that stands whole at the store's start, where one does.
 
 #[derive(Clone, Copy)]
 pub struct NextFrame {

@@ -16,7 +16,7 @@ pub const PORT_PACKET_FULL: u8 = 1;
 
 pub const PORT_STREAM: u8 = 2;
 
-#[derive(Clone, Copy)]
+#[derive(Clone, Copy, Debug, PartialEq, Eq)]
 pub enum KissCommand {
     DataFrame,
     TxDelay,
@@ -24,3 +24,26 @@ pub enum KissCommand {
     FullDuplex,
 }
 
+// Why a frame is not read: it has no header, or no end behind its payload; its command is none of the four.
+#[derive(Clone, Copy, Debug, PartialEq, Eq)]
+pub enum KissError {
+    MalformedKissFrame,
+    UnsupportedKissCommand,
+}
+
+// Why a builder wrote no frame.
+#[derive(Clone, Copy, Debug, PartialEq, Eq)]
+pub enum BuildError {
+    PayloadTooBig,
+    LsfWrongSize,
+    OutOfRange,
+    NoRoom,
+}
+
+// Why a queue does not look at a frame.
+#[derive(Clone, Copy, Debug, PartialEq, Eq)]
+pub enum PushError {
+    MalformedKissFrame,
+    WrongStore,
+    OutOfBounds,
+}

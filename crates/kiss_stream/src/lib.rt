@@ -7,28 +7,14 @@ ghost use Rattle.kiss_stream.specs.Checked.{checked_content};
 
 use protocol::StreamFrame;
 
-// The 26 bytes are all zero unless the content is valid.
-#[derive(Clone, Copy)]
-pub struct StreamContent {
-    pub valid: bool,
-    pub bytes: [u8; 26],
-}
-
-// Valid unless the LICH index or the frame number is out of range. A number over 32,767 would mark the end.
-pub fn checked_content(frame: StreamFrame) -> StreamContent
+// The content, unless the LICH index or the frame number is out of range. A number over 32,767 would mark the end.
+pub fn checked_content(frame: StreamFrame) -> Option<[u8; 26]>
     ensures { result ≡ checked_content frame }
 {
     if (5 < frame.lich_idx) | (32767 < frame.frame_number) {
-        return StreamContent {
-            valid: false,
-            bytes: [0u8; 26],
-        };
+        return None;
     }
-    let bytes = stream_content(frame);
-    StreamContent {
-        valid: true,
-        bytes: bytes,
-    }
+    Some(stream_content(frame))
 }
 
 // The LICH part, its index in the top three bits of a byte, and the numbered data with its CRC.

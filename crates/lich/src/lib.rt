@@ -11,17 +11,16 @@ pub struct LichCollection {
     pub mask: u8,
 }
 
+#[derive(Clone, Copy, Debug, PartialEq, Eq)]
+pub enum LichError {
+    IndexOver5,
+    OutOfBounds,
+}
+
 #[derive(Clone, Copy)]
 pub struct SegmentSet {
     pub answer: Result<(), LichError>,
     pub collection: LichCollection,
-}
-
-// The 30 bytes are all zero unless the answer is `Whole`.
-#[derive(Clone, Copy)]
-pub struct Assembled {
-    pub answer: Result<Option<[u8; 30]>, LichError>,
-    pub bytes: [u8; 30],
 }
 
 impl LichCollection {
@@ -72,27 +71,13 @@ impl LichCollection {
     }
 
     // The LSF, once all six segments have been heard.
-    pub fn try_assemble(self) -> Assembled
+    pub fn try_assemble(self) -> Result<Option<[u8; 30]>, LichError>
         ensures { result ≡ assembled self }
     {
-        match self.valid_segments() {
-            Err(LichError::OutOfBounds) => return Assembled {
-                answer: Err(LichError::OutOfBounds),
-                bytes: [0u8; 30],
-            },
-            Ok(n) => {
-                if n == 6 {
-                    let bytes = self.segments;
-                    return Assembled {
-                        answer: Assembly::Whole,
-                        bytes: bytes,
-                    };
-                }
-                return Assembled {
-                    answer: Ok(None),
-                    bytes: [0u8; 30],
-                };
-            }
+        let heard = self.valid_segments()?;
+        if heard == 6 {
+            return Ok(Some(self.segments));
         }
+        Ok(None)
     }
 }

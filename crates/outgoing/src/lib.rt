@@ -16,8 +16,8 @@ pub struct Outgoing {
 
 #[derive(Clone, Copy)]
 pub struct HostRead {
+    // How many bytes were read.
     pub answer: Result<usize, LentError>,
-    pub count: usize,
     pub outgoing: Outgoing,
 }
 

@@ -6,7 +6,8 @@ ghost use Rattle.std.specs.Prelude.{◌≡◌};
 ghost use Rattle.packets.specs.Queue.{sound_queue, is_empty};
 
 use kiss_layout::PushError;
-use protocol::{LsfFrame, PacketFrame};
+use protocol::ModulatorFrame;
+use room::LentError;
 
 // The bytes of a packet's data, type and CRC among them.
 pub const MAX_DATA_LEN: usize = 825;
@@ -37,27 +38,23 @@ pub struct PacketQueue {
     pub full: bool,
 }
 
+// The answers of pushes and reads are declared here and not in the crates of the calls, since the definitions and promises of specs/ speak of them too.
+#[derive(Clone, Copy, Debug, PartialEq, Eq)]
+pub enum Push {
+    Queued,
+    Ignored,
+}
+
 #[derive(Clone, Copy)]
 pub struct Pushed {
     pub answer: Result<Push, PushError>,
     pub queue: PacketQueue,
 }
 
-#[derive(Clone, Copy)]
-pub enum ReadAnswer {
-    Nothing,
-    Lsf,
-    Packet,
-    End,
-    WrongStore,
-    OutOfBounds,
-}
-
+// The next frame, where there is one.
 #[derive(Clone, Copy)]
 pub struct PacketRead {
-    pub answer: ReadAnswer,
-    pub lsf: LsfFrame,
-    pub frame: PacketFrame,
+    pub answer: Result<Option<ModulatorFrame>, LentError>,
     pub queue: PacketQueue,
 }
 

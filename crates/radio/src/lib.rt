@@ -18,17 +18,17 @@ pub struct Radio {
     pub outgoing: Outgoing,
 }
 
+#[derive(Clone, Copy, Debug, PartialEq, Eq)]
+pub enum AirError {
+    OutOfRange,
+    WrongStore,
+    OutOfBounds,
+}
+
 #[derive(Clone, Copy)]
 pub struct Heard {
     pub answer: Result<(), AirError>,
     pub radio: Radio,
-}
-
-// Whether a frame is listened to, or else what is answered.
-#[derive(Clone, Copy)]
-pub enum Hears {
-    Frame,
-    Answer(AirAnswer),
 }
 
 impl Radio {

@@ -2,7 +2,12 @@
 use Rattle.std.specs.Prelude.{ℕ, ◌+◌, ◌-◌, Bool, List, ◌++◌, leb, length, take, drop, Result, Ok, Err}
 use Rattle.choice.specs.Pick.{pick, and}
 use Rattle.room.specs.declared.NoRoom.{NoRoom}
-use Rattle.room.specs.Room.{no_room}
+use Rattle.room.specs.declared.LentError.{LentError}
+use Rattle.room.specs.declared.LentError.TheVariants.{WrongStore, OutOfBounds}
+
+-- the one value of its type
+abbrev pub no_room : NoRoom
+no_room = record {}
 
 -- whether xs fits into the room d; an exact fit is one
 abbrev pub fits : List ℕ → List ℕ → Bool
@@ -24,7 +29,15 @@ copied xs d at = pick (leb (at + length xs) (length d)) ((Ok tt), placed xs d at
 unfoldable pub shifted : List ℕ → ℕ → ℕ → Result (Unit {0}) NoRoom × List ℕ
 shifted d from to = pick (and (leb from to) (leb to (length d))) ((Ok tt), over (take (to - from) (drop from d)) d) ((Err no_room), d)
 
--- document 01's number of an answer
+-- document 01's numbers of what is refused
+abbrev pub no_room_number : ℕ
+no_room_number = 7
+
+abbrev pub lent_number : LentError → ℕ
+lent_number WrongStore = 7
+lent_number OutOfBounds = 8
+
+-- and of an answer
 abbrev pub number_of : Result (Unit {0}) NoRoom → ℕ
-number_of (Ok tt) = 0
-number_of (Err no_room) = 7
+number_of (Ok done) = 0
+number_of (Err e) = no_room_number

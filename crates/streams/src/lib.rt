@@ -7,7 +7,8 @@ ghost use Rattle.std.specs.Prelude.{◌≡◌};
 ghost use Rattle.streams.specs.Queue.{sound_queue, empty_queue};
 
 use kiss_layout::PushError;
-use protocol::{LsfFrame, StreamFrame};
+use protocol::ModulatorFrame;
+use room::LentError;
 
 pub const STREAM_STORE_LEN: usize = 230;
 
@@ -29,27 +30,24 @@ pub struct StreamQueue {
     pub pending: bool,
 }
 
+// The answers of pushes and reads are declared here and not in `stream_push` and `stream_read`, since the definitions and promises of specs/ speak of them too.
+#[derive(Clone, Copy, Debug, PartialEq, Eq)]
+pub enum StreamPush {
+    Queued,
+    LsfPending,
+    Ignored,
+}
+
 #[derive(Clone, Copy)]
 pub struct StreamPushed {
     pub answer: Result<StreamPush, PushError>,
     pub queue: StreamQueue,
 }
 
-#[derive(Clone, Copy)]
-pub enum StreamReadAnswer {
-    Nothing,
-    Lsf,
-    Frame,
-    WrongStore,
-    OutOfBounds,
-}
-
-// The LSF is all zero unless the answer is `Lsf`, and the frame unless it is `Frame`.
+// The LSF that waits or the next frame, where there is one.
 #[derive(Clone, Copy)]
 pub struct StreamRead {
-    pub answer: StreamReadAnswer,
-    pub lsf: LsfFrame,
-    pub frame: StreamFrame,
+    pub answer: Result<Option<ModulatorFrame>, LentError>,
     pub queue: StreamQueue,
 }
 

@@ -6,19 +6,16 @@ ghost use Rattle.tnc_transmit.specs.Calls.{not_given, put_given, tnc_tx};
 
 use channel::Channel;
 use host_record::{PACKET_STORE_LEN, STREAM_STORE_LEN};
-use protocol::{LsfFrame, PacketFrame, StreamFrame};
+use protocol::ModulatorFrame;
 use radio::Radio;
+use room::LentError;
 use tnc_core::Tnc;
-use tx_frame::{NO_PACKET_FRAME, NO_STREAM_FRAME, TxAnswer, TxRead};
+use tx_frame::TxRead;
 
-// The frame's kind is the answer. What that kind does not use is zero.
+// The frame that the modulator is given, where there is one.
 #[derive(Clone, Copy)]
 pub struct TncTx {
-    pub answer: TxAnswer,
-    pub tx_delay: u8,
-    pub lsf: LsfFrame,
-    pub stream: StreamFrame,
-    pub packet: PacketFrame,
+    pub answer: Result<Option<ModulatorFrame>, LentError>,
     pub tnc: Tnc,
     pub channel: Channel,
 }
@@ -28,13 +25,13 @@ pub fn read_tx_frame(tnc: Tnc, channel: Channel, packets: &[u8], streams: &[u8])
     ensures { result ≡ tnc_tx tnc channel packets.now streams.now }
 {
     if packets.len() != PACKET_STORE_LEN {
-        return not_given(TxAnswer::WrongStore, tnc, channel);
+        return not_given(LentError::WrongStore, tnc, channel);
     }
     if streams.len() != STREAM_STORE_LEN {
-        return not_given(TxAnswer::WrongStore, tnc, channel);
+        return not_given(LentError::WrongStore, tnc, channel);
     }
     if !tnc.is_sound() {
-        return not_given(TxAnswer::OutOfBounds, tnc, channel);
+        return not_given(LentError::OutOfBounds, tnc, channel);
     }
     let radio = tnc.radio;
     let state = radio.state;
@@ -75,8 +72,8 @@ fn put_given(tnc: Tnc, read: TxRead) -> TncTx
     }
 }
 
-fn not_given(answer: TxAnswer, tnc: Tnc, channel: Channel) -> TncTx
-    ensures { result ≡ not_given answer tnc channel }
+fn not_given(error: LentError, tnc: Tnc, channel: Channel) -> TncTx
+    ensures { result ≡ not_given (Err error) tnc channel }
 {
     TncTx {
         answer: answer,
