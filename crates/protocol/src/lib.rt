@@ -29,3 +29,22 @@ pub struct PacketFrame {
     pub payload: [u8; 25],
     pub counter: PacketFrameCounter,
 }
+
+// What a demodulator hears.
+#[derive(Clone, Copy)]
+pub enum Frame {
+    Lsf(LsfFrame),
+    Stream(StreamFrame),
+    Packet(PacketFrame),
+}
+
+// What a modulator is given, as m17core's modem.rs has it.
+#[derive(Clone, Copy)]
+pub enum ModulatorFrame {
+    // In units of 10 ms.
+    Preamble { tx_delay: u8 },
+    Lsf(LsfFrame),
+    Stream(StreamFrame),
+    Packet(PacketFrame),
+    EndOfTransmission,
+}
