@@ -16,7 +16,7 @@ use Rattle.room.proofs.Places.{placed-length}
 use Rattle.crc.specs.Crc.{crc_of, two_bytes, sealed}
 use Rattle.protocol.specs.Lsf.{part}
 use Rattle.protocol.specs.Basic.{basic_lsf}
-use Rattle.std.specs.Prelude.{Ok, Err, Result, ℕ}
+use Rattle.std.specs.Prelude.{Ok, Err, Result, ℕ, None}
 use Rattle.packets.specs.declared.Push.TheVariants.{Ignored}
 use Rattle.kiss_layout.specs.declared.PushError.TheVariants.{WrongStore, OutOfBounds}
 use Rattle.kiss_layout.specs.declared.KissError.{KissError}
@@ -25,7 +25,7 @@ use Rattle.kiss_layout.specs.Read.{decoded}
 use Rattle.packets.specs.declared.PacketQueue.{PacketQueue}
 use Rattle.packets.specs.declared.Pushed.{Pushed}
 use Rattle.packets.specs.declared.PacketRead.{PacketRead}
-use Rattle.packets.specs.declared.ReadAnswer.TheVariants.{Nothing, WrongStore as NoStore, OutOfBounds as NoState}
+use Rattle.room.specs.declared.LentError.TheVariants.{WrongStore as NoStore, OutOfBounds as NoState}
 use Rattle.packets.specs.Frames.{frames_of, zeros, data_frames, carried_lsf, carried_body}
 use Rattle.packets.specs.Queue.{ROOM, DATA, STORE, RAW, sound_place, sound_queue, is_empty, Made, malformed, unfit, overlong, fills, basic_room, basic, full, made_basic, made_full, stored, not_pushed, obeyed, pushing, pushed_basic, pushed_full, advanced, lsf_read, data_read, turn, walk, not_read, read_next, read_number}
 use Rattle.packets.specs.Inside.{count_of}
@@ -64,7 +64,7 @@ unfolding read_next pick
 read_keeps q s = by (eqb (length s) STORE) (sound_queue q) (is_empty q)
   where
     chosen : Bool → Bool → Bool → PacketRead
-    chosen a b c = pick a (pick b (pick c (not_read Nothing q) (walk 4 q s)) (not_read NoState q)) (not_read NoStore q)
+    chosen a b c = pick a (pick b (pick c (not_read (Ok None) q) (walk 4 q s)) (not_read (Err NoState) q)) (not_read (Err NoStore) q)
 
     by : (a b c : Bool) → read_number (chosen a b c).answer ≢ 0 → (chosen a b c).queue ≡ q
     by true true true f = refl
