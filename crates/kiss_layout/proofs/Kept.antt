@@ -29,15 +29,15 @@ use Rattle.kiss_layout.proofs.ReadBack.{frame_header, frame_payload}
 
 -- ---- what acceptance says of the arguments
 
-not_refused : (t : Bool) (r : (Result ℕ BuildError)) → pick t (some r) none ≡ none → t ≡ false
+not_refused : (t : Bool) (r : BuildError) → pick t (some r) none ≡ none → t ≡ false
 unfolding pick
 not_refused true r e = let z : ◌≡◌ {A = ℕ} 0 1 = cc in absurd (omega arith)
 not_refused false r e = refl
 
-within : (most n : ℕ) (r : (Result ℕ BuildError)) → pick (ltb most n) (some r) none ≡ none → n ≤ most
+within : (most n : ℕ) (r : BuildError) → pick (ltb most n) (some r) none ≡ none → n ≤ most
 within most n r e = ltb-false most n (not_refused (ltb most n) r e)
 
-if_thirty : (n : ℕ) (o : Option (Result ℕ BuildError)) (r : (Result ℕ BuildError)) → pick (eqb n 30) o (some r) ≡ none → (n ≡ 30) × (o ≡ none)
+if_thirty : (n : ℕ) (o : Option BuildError) (r : BuildError) → pick (eqb n 30) o (some r) ≡ none → (n ≡ 30) × (o ≡ none)
 unfolding pick
 if_thirty n o r e = by (eqb n 30) refl e
   where
@@ -47,23 +47,23 @@ if_thirty n o r e = by (eqb n 30) refl e
 
 content_short : (b : Building) → Accepted b → length (content_of b) ≤ 855
 unfolding refusal
-content_short (basic_packet payload) ok = omega (arith, within 822 (length payload) (Err PayloadTooBig) ok.not_refused)
+content_short (basic_packet payload) ok = omega (arith, within 822 (length payload) PayloadTooBig ok.not_refused)
 content_short (full_packet lsf packet) ok =
-    let l = if_thirty (length lsf) (pick (ltb 825 (length packet)) (some (Err PayloadTooBig)) none) (Err LsfWrongSize) ok.not_refused in
-    omega (arith, l.0, within 825 (length packet) (Err PayloadTooBig) l.1, length-append lsf packet)
-content_short (stream_setup lsf) ok = omega (arith, (if_thirty (length lsf) none (Err LsfWrongSize) ok.not_refused).0)
+    let l = if_thirty (length lsf) (pick (ltb 825 (length packet)) (some PayloadTooBig) none) LsfWrongSize ok.not_refused in
+    omega (arith, l.0, within 825 (length packet) PayloadTooBig l.1, length-append lsf packet)
+content_short (stream_setup lsf) ok = omega (arith, (if_thirty (length lsf) none LsfWrongSize ok.not_refused).0)
 content_short (stream_data frame) ok = omega (arith, stream-length frame ok.typed.0 ok.typed.1)
 content_short (set_tx_delay port units) ok = omega arith
 content_short (persistence port units) ok = omega arith
 content_short (set_full_duplex port on) ok = omega arith
 
-within_two : (n m : ℕ) → pick (ltb 5 n) (some (Err OutOfRange)) (pick (ltb 32767 m) (some (Err OutOfRange)) none) ≡ none → (n ≤ 5) × (m ≤ 32767)
+within_two : (n m : ℕ) → pick (ltb 5 n) (some OutOfRange) (pick (ltb 32767 m) (some OutOfRange) none) ≡ none → (n ≤ 5) × (m ≤ 32767)
 unfolding pick
 within_two n m e = by (ltb 5 n) refl e
   where
-    by : (t : Bool) → ltb 5 n ≡ t → pick t (some (Err OutOfRange)) (pick (ltb 32767 m) (some (Err OutOfRange)) none) ≡ none → (n ≤ 5) × (m ≤ 32767)
+    by : (t : Bool) → ltb 5 n ≡ t → pick t (some OutOfRange) (pick (ltb 32767 m) (some OutOfRange) none) ≡ none → (n ≤ 5) × (m ≤ 32767)
     by true p q = let z : ◌≡◌ {A = ℕ} 0 1 = cc in absurd (omega arith)
-    by false p q = (ltb-false 5 n p, within 32767 m (Err OutOfRange) q)
+    by false p q = (ltb-false 5 n p, within 32767 m OutOfRange q)
 
 -- the port is one of 16, and no header is a FEND: of the data builders the port is below 3, of the others the command is not 0
 pub header_right : (b : Building) → Accepted b → (port_of b ≤ 15) × (header_of (port_of b) (command_of b) ≢ FEND)
@@ -72,9 +72,9 @@ header_right (basic_packet payload) ok = omega arith
 header_right (full_packet lsf packet) ok = omega arith
 header_right (stream_setup lsf) ok = omega arith
 header_right (stream_data frame) ok = omega arith
-header_right (set_tx_delay port units) ok = omega (arith, within 15 port (Err OutOfRange) ok.not_refused)
-header_right (persistence port units) ok = omega (arith, within 15 port (Err OutOfRange) ok.not_refused)
-header_right (set_full_duplex port on) ok = omega (arith, within 15 port (Err OutOfRange) ok.not_refused)
+header_right (set_tx_delay port units) ok = omega (arith, within 15 port OutOfRange ok.not_refused)
+header_right (persistence port units) ok = omega (arith, within 15 port OutOfRange ok.not_refused)
+header_right (set_full_duplex port on) ok = omega (arith, within 15 port OutOfRange ok.not_refused)
 
 -- ---- builders
 
@@ -92,7 +92,7 @@ put_keeps_room : (f room : List ℕ) → built_number (put_frame f room).0 ≢ 0
 unfolding put_frame pick
 put_keeps_room f room n = by (fits f room) n
   where
-    by : (t : Bool) → built_number (pick {A = (Result ℕ BuildError) × List ℕ} t (Ok (length f), over f room) ((Err NoRoom), room)).0 ≢ 0 → (pick {A = (Result ℕ BuildError) × List ℕ} t (Ok (length f), over f room) ((Err NoRoom), room)).1 ≡ room
+    by : (t : Bool) → built_number (pick {A = (Result ℕ BuildError) × List ℕ} t (Ok (length f), over f room) (Err NoRoom, room)).0 ≢ 0 → (pick {A = (Result ℕ BuildError) × List ℕ} t (Ok (length f), over f room) (Err NoRoom, room)).1 ≡ room
     by true g = absurd (g refl)
     by false g = refl
 
@@ -100,7 +100,7 @@ pub refused_keeps_room : RefusedKeepsRoom
 unfolding built
 refused_keeps_room b room n = by (refusal b) n
   where
-    by : (o : Option (Result ℕ BuildError)) → built_number (unless o (frame_of b) room).0 ≢ 0 → (unless o (frame_of b) room).1 ≡ room
+    by : (o : Option BuildError) → built_number (unless o (frame_of b) room).0 ≢ 0 → (unless o (frame_of b) room).1 ≡ room
     by (some r) g = refl
     by none g = put_keeps_room (frame_of b) room g
 

@@ -49,16 +49,16 @@ content_of (persistence port units) = units ∷ []
 content_of (set_full_duplex port on) = pick on 1 0 ∷ []
 
 -- of a port over 15
-abbrev pub port_refusal : ℕ → Option (Result ℕ BuildError)
-port_refusal port = pick (ltb 15 port) (some (Err OutOfRange)) none
+abbrev pub port_refusal : ℕ → Option BuildError
+port_refusal port = pick (ltb 15 port) (some OutOfRange) none
 
 -- the answer to arguments that are refused: an LSF that is not 30 bytes, then a basic payload over 822 or a packet over 825, then a LICH index over 5, a frame
 -- number over 32,767 or a port over 15
-unfoldable pub refusal : Building → Option (Result ℕ BuildError)
-refusal (basic_packet payload) = pick (ltb 822 (length payload)) (some (Err PayloadTooBig)) none
-refusal (full_packet lsf packet) = pick (eqb (length lsf) 30) (pick (ltb 825 (length packet)) (some (Err PayloadTooBig)) none) (some (Err LsfWrongSize))
-refusal (stream_setup lsf) = pick (eqb (length lsf) 30) none (some (Err LsfWrongSize))
-refusal (stream_data frame) = pick (ltb 5 frame.lich_idx) (some (Err OutOfRange)) (pick (ltb 32767 frame.frame_number) (some (Err OutOfRange)) none)
+unfoldable pub refusal : Building → Option BuildError
+refusal (basic_packet payload) = pick (ltb 822 (length payload)) (some PayloadTooBig) none
+refusal (full_packet lsf packet) = pick (eqb (length lsf) 30) (pick (ltb 825 (length packet)) (some PayloadTooBig) none) (some LsfWrongSize)
+refusal (stream_setup lsf) = pick (eqb (length lsf) 30) none (some LsfWrongSize)
+refusal (stream_data frame) = pick (ltb 5 frame.lich_idx) (some OutOfRange) (pick (ltb 32767 frame.frame_number) (some OutOfRange) none)
 refusal (set_tx_delay port units) = port_refusal port
 refusal (persistence port units) = port_refusal port
 refusal (set_full_duplex port on) = port_refusal port
@@ -71,8 +71,8 @@ abbrev pub frame_of : Building → List ℕ
 frame_of b = frame (header_of (port_of b) (command_of b)) (content_of b)
 
 -- with a refusal the room stays
-abbrev pub unless : Option (Result ℕ BuildError) → List ℕ → List ℕ → Result ℕ BuildError × List ℕ
-unless (some refused) f d = (refused, d)
+abbrev pub unless : Option BuildError → List ℕ → List ℕ → Result ℕ BuildError × List ℕ
+unless (some refused) f d = (Err refused, d)
 unless none f d = put_frame f d
 
 -- the answer of a builder, and the room after it

@@ -12,7 +12,7 @@ frame header content = FEND ∷ header ∷ esc content ++ (FEND ∷ [])
 
 -- a frame put at the start of a room, if it fits: the answer, and the room after it
 unfoldable pub put_frame : List ℕ → List ℕ → Result ℕ BuildError × List ℕ
-put_frame f d = pick (fits f d) (Ok (length f), over f d) ((Err NoRoom), d)
+put_frame f d = pick (fits f d) (Ok (length f), over f d) (Err NoRoom, d)
 
 -- document 01's number of a builder's answer
 abbrev pub built_number : Result ℕ BuildError → ℕ

@@ -59,7 +59,7 @@ BuiltAtMost1713 = (b : Building) → Accepted b → length (frame_of b) ≤ 1713
 
 -- an LSF that is not 30 bytes is answered 2, whatever the packet is
 abbrev pub LsfLengthFirst : Type 0
-LsfLengthFirst = (lsf packet : List ℕ) → length lsf ≢ 30 → refusal (full_packet lsf packet) ≡ some (Err LsfWrongSize)
+LsfLengthFirst = (lsf packet : List ℕ) → length lsf ≢ 30 → refusal (full_packet lsf packet) ≡ some LsfWrongSize
 
 -- with any answer but 0 the room is as it was
 abbrev pub RefusedKeepsRoom : Type 0
