@@ -12,7 +12,6 @@ use Rattle.protocol.specs.Basic.{basic_lsf}
 use Rattle.protocol.specs.declared.ModulatorFrame.{ModulatorFrame}
 use Rattle.protocol.specs.declared.ModulatorFrame.TheVariants.{Preamble, Lsf, Stream, Packet as PacketPiece, EndOfTransmission}
 use Rattle.kiss_layout.specs.declared.KissError.{KissError}
-use Rattle.kiss_layout.specs.declared.KissError.TheVariants.{MalformedKissFrame as NoPayload}
 use Rattle.packets.specs.declared.Push.{Push}
 use Rattle.kiss_layout.specs.declared.PushError.{PushError}
 use Rattle.kiss_layout.specs.declared.PushError.TheVariants.{MalformedKissFrame, OutOfBounds, WrongStore}
@@ -75,12 +74,12 @@ basic_room n decoded_room = basic_lsf ++ (RAW ∷ placed (two_bytes (crc_of (RAW
 
 -- up to 822 bytes are queued, more are ignored
 unfoldable pub basic : Result ℕ KissError → List ℕ → Made
-basic (Err NoPayload) decoded_room = malformed
+basic (Err e) decoded_room = malformed
 basic (Ok n) decoded_room = pick (leb n 822) (fills (basic_room n decoded_room) (n + 3)) overlong
 
 -- under 33, or an LSF whose CRC is not 0, is ignored
 unfoldable pub full : Result ℕ KissError → List ℕ → Made
-full (Err NoPayload) decoded_room = malformed
+full (Err e) decoded_room = malformed
 full (Ok n) decoded_room = pick (and (leb 33 n) (eqb (crc_of (take 30 decoded_room)) 0)) (fills decoded_room (n - 30)) unfit
 
 -- every room decoded into is first all zero; behind the type byte there are 824 bytes

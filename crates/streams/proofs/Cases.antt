@@ -32,11 +32,11 @@ curr_below q e = ltb-true q.curr PLACES (and_fst _ _ (and_snd _ _ e))
 
 module _ (q : StreamQueue) (frame store : List ℕ) where
   -- past the tests, once the frame is decoded
-  pub pushed-decoded : length store ≡ STORE → sound_queue q ≡ true → {r : (Result ℕ KissError)} (payload : List ℕ) → (r, payload) ≡ decoded_of frame → (d : (Result ℕ KissError)) → r ≡ d
+  pub pushed-decoded : length store ≡ STORE → sound_queue q ≡ true → {r : Result ℕ KissError} (payload : List ℕ) → (r, payload) ≡ decoded_of frame → (d : Result ℕ KissError) → r ≡ d
       → decoded_pushed d q payload store ≡ pushed q frame store
   unfolding pushed pick
   pushed-decoded l e payload p d g =
-      ap (λ (x : (Result ℕ KissError)). decoded_pushed x q payload store) (sym g)
+      ap (λ (x : Result ℕ KissError). decoded_pushed x q payload store) (sym g)
       ∙ ap (λ (x : Result ℕ KissError × List ℕ). decoded_pushed x.0 q x.1 store) p
       ∙ rw (eq-eqb (length store) STORE l, e)
 

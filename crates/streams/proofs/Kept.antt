@@ -47,7 +47,7 @@ module _ (frame : List ℕ) where
   stored_read : frame_of stored ≡ frame_in frame
   stored_read = frame_of_lem (frame_in frame) (payload_five (decoded_of frame).1 (payload_thirty frame)) (payload_sixteen (decoded_of frame).1 (payload_thirty frame))
 
-quiet_adds : {a : (Result StreamPush PushError)} → Quiet a → (f : StreamFrame) → added_by a f ≡ []
+quiet_adds : {a : Result StreamPush PushError} → Quiet a → (f : StreamFrame) → added_by a f ≡ []
 quiet_adds ignored f = refl
 quiet_adds malformed f = refl
 quiet_adds wrong_store f = refl
@@ -156,7 +156,7 @@ module _ (x : Box) where
 
 -- ---- refusals, and frames that are ignored
 
-refused_quiet : (a : (Result StreamPush PushError)) → push_number a ≢ 0 → 2 ≤ tag a
+refused_quiet : (a : Result StreamPush PushError) → push_number a ≢ 0 → 2 ≤ tag a
 refused_quiet (Ok Queued) f = absurd (f refl)
 refused_quiet (Ok LsfPending) f = absurd (f refl)
 refused_quiet (Ok Ignored) f = omega arith
@@ -255,7 +255,7 @@ lsf_bytes (Err e) = None
 
 module _ (x : Box) where
   lsf_goes : (lsf : LsfFrame) → (next_of x).answer ≡ Ok (Some (Lsf lsf)) → (lsf_waiting x ≡ Some lsf.0) × (lsf_waiting (after_read x) ≡ None) × (empty_queue x.queue ≡ false)
-  unfolding lsf_waiting lsf_read frame_read pick
+  unfolding lsf_waiting lsf_read frame_read pick lsf_bytes
   lsf_goes lsf = by (read_outcome x.queue x.store)
     where
       by : {r : StreamRead} → Read x.queue x.store r → r.answer ≡ Ok (Some (Lsf lsf)) → (lsf_waiting x ≡ Some lsf.0) × (lsf_waiting (read_box x r) ≡ None) × (empty_queue x.queue ≡ false)

@@ -17,7 +17,6 @@ use Rattle.kiss_layout.specs.declared.PushError.{PushError}
 use Rattle.streams.specs.declared.StreamPush.TheVariants.{Ignored, Queued, LsfPending}
 use Rattle.kiss_layout.specs.declared.PushError.TheVariants.{MalformedKissFrame, WrongStore, OutOfBounds}
 use Rattle.kiss_layout.specs.declared.KissError.{KissError}
-use Rattle.kiss_layout.specs.declared.KissError.TheVariants.{MalformedKissFrame as NoPayload}
 use Rattle.kiss_layout.specs.Scan.{stretch, after_fends}
 use Rattle.kiss_layout.specs.Read.{content_in, payload_at, decoded}
 use Rattle.kiss_layout.specs.Stream.{stream_of}
@@ -66,14 +65,14 @@ tag (Err MalformedKissFrame) = 2
 tag (Err WrongStore) = 2
 tag (Err OutOfBounds) = 2
 
-pub quiet_tag : {a : (Result StreamPush PushError)} → Quiet a → tag a ≡ 2
+pub quiet_tag : {a : Result StreamPush PushError} → Quiet a → tag a ≡ 2
 quiet_tag ignored = refl
 quiet_tag malformed = refl
 quiet_tag wrong_store = refl
 quiet_tag out_of_bounds = refl
 
 pub data Push (q : StreamQueue) (payload store : List ℕ) : StreamPushed × List ℕ → Type 0 where
-  kept : {a : (Result StreamPush PushError)} → Quiet a → Push q payload store (not_pushed a q store)
+  kept : {a : Result StreamPush PushError} → Quiet a → Push q payload store (not_pushed a q store)
   data_queued : length store ≡ STORE → sound_queue q ≡ true → q.full ≡ false
       → Push q payload store (record { answer = Ok Queued; queue = queued q }, placed (bytes_of (stream_of payload)) store (FRAME * q.next))
   lsf_taken : length store ≡ STORE → sound_queue q ≡ true
@@ -106,8 +105,8 @@ push_outcome q frame store = tested (eqb (length store) STORE) refl
     counted l s false true = data-pushed l s
     counted l s false false = lsf-pushed l s
 
-    answered : length store ≡ STORE → sound_queue q ≡ true → (d : (Result ℕ KissError)) → Push q p store (decoded_pushed d q p store)
-    answered l s (Err NoPayload) = kept malformed
+    answered : length store ≡ STORE → sound_queue q ≡ true → (d : Result ℕ KissError) → Push q p store (decoded_pushed d q p store)
+    answered l s (Err e) = kept malformed
     answered l s (Ok n) = counted l s (leb n IGNORED) (leb n DATA)
 
     bounded : length store ≡ STORE → (t : Bool) → sound_queue q ≡ t → Push q p store (pick t (decoded_pushed (decoded_of frame).0 q p store) (not_pushed (Err OutOfBounds) q store))

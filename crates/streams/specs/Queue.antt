@@ -14,7 +14,6 @@ use Rattle.streams.specs.declared.StreamPush.{StreamPush}
 use Rattle.kiss_layout.specs.declared.PushError.{PushError}
 use Rattle.streams.specs.declared.StreamPush.TheVariants.{Ignored, Queued, LsfPending}
 use Rattle.kiss_layout.specs.declared.KissError.{KissError}
-use Rattle.kiss_layout.specs.declared.KissError.TheVariants.{MalformedKissFrame as NoPayload}
 use Rattle.kiss_layout.specs.declared.PushError.TheVariants.{MalformedKissFrame, OutOfBounds, WrongStore}
 use Rattle.kiss_layout.specs.Read.{decoded}
 use Rattle.kiss_layout.specs.Stream.{stream_of}
@@ -90,7 +89,7 @@ unfoldable pub payload_pushed : ℕ → StreamQueue → List ℕ → List ℕ �
 payload_pushed n q payload store = pick (leb n IGNORED) (not_pushed (Ok Ignored) q store) (pick (leb n DATA) (data_pushed q payload store) (lsf_pushed q payload store))
 
 abbrev pub decoded_pushed : Result ℕ KissError → StreamQueue → List ℕ → List ℕ → StreamPushed × List ℕ
-decoded_pushed (Err NoPayload) q payload store = not_pushed (Err MalformedKissFrame) q store
+decoded_pushed (Err e) q payload store = not_pushed (Err MalformedKissFrame) q store
 decoded_pushed (Ok n) q payload store = payload_pushed n q payload store
 
 -- a frame decoded into a room of 30 bytes that is first all zero: longer payloads are cut to 30
