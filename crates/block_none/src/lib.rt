@@ -8,11 +8,5 @@ ghost use Rattle.blocks.specs.Block.{without};
 pub fn none_of(t: [u8; 16], b: u8) -> bool
     ensures { result ≡ without b t }
 {
-    let mut clear = true;
-    let mut k = 0;
-    while k < 16 {
-        clear = clear & (t[k] != b);
-        k += 1;
-    }
-    clear
+    t.iter().fold(true, |clear, x| clear & (*x != b))
 }

@@ -52,13 +52,7 @@ fn crc_line<W: Write>(target: &mut W, name: &str, input: &[u8]) -> io::Result<()
 fn every_byte() -> [u8; 256]
     ensures { (k : ℕ) → k < 256 → get_or result k 0 ≡ k }
 {
-    let mut out = [0u8; 256];
-    let mut i: usize = 0;
-    while i < 256 {
-        out[i] = i as u8;
-        i += 1;
-    }
-    out
+    std::array::from_fn(|i| i as u8)
 }
 
 fn lsf_line<W: Write>(target: &mut W, name: &str, lsf: LsfFrame) -> io::Result<()> {

@@ -1,5 +1,5 @@
 -- The reader's calls on record and store are its calls on what it holds, and a sound reader stays sound. Assumes nothing.
-use mathlib.Core.Path.{◌≡◌, refl, ap, ◌∙◌}
+use mathlib.Core.Path.{◌≡◌, refl, sym, ap, ◌∙◌}
 use mathlib.Core.Bool.{Bool, true, false}
 use mathlib.Core.Option.{Option, none, some, map}
 use mathlib.Core.List.{List, ◌∷◌}
@@ -12,13 +12,13 @@ use borrow.Author.Tests.{eq-eqb, eqb-true, le-leb}
 use Rattle.choice.specs.Pick.{pick, and}
 use Rattle.room.specs.Room.{over}
 use Rattle.kiss_layout.specs.Scan.{stretch}
-use Rattle.kiss_calls.specs.declared.WriteAnswer.TheVariants.{Done, Full, WrongStore, OutOfBounds}
+use Rattle.kiss_calls.specs.declared.WriteError.TheVariants.{Full, WrongStore, OutOfBounds}
 use Rattle.kiss_calls.specs.declared.Written.{Written}
 use Rattle.std.specs.Prelude.{Ok, None, Some}
 use Rattle.kiss_calls.specs.declared.NextFrame.{NextFrame}
 use Rattle.kiss_reader.specs.Meaning.{enclosed}
 use Rattle.kiss_reader.specs.Reader.{Reader, new_reader, STORE, flush, front, is_some, next, after_next, refused, takes, after_write}
-use Rattle.kiss_calls.specs.Calls.{reader_of, buffer_of, sound_buffer, not_written, writes, written, next_answer, found, next_frame, frame_in}
+use Rattle.kiss_calls.specs.Calls.{reader_of, buffer_of, sound_buffer, not_written, writes, written, taken_by, next_answer, found, next_frame, frame_in}
 use Rattle.kiss_reader.specs.Front.{stands_first}
 use Rattle.kiss_calls.specs.Promises.{Box, new_box, after_written, after_next_frame, Sound}
 use Rattle.kiss_reader.proofs.Settled.{Settled, bare, alone, fronted, settled}
@@ -119,15 +119,15 @@ module _ (x : Box) (o : List ℕ) (s : Sound x) where
 
   module _ (n : refused (reading x) ≡ false) where
     write_done : written x.buffer o x.store
-        ≡ (record { answer = Done; count = takes (reading x) o; buffer = buffer_of (after_write (reading x) o) }, over (after_write (reading x) o).held x.store)
+        ≡ (record { answer = Ok (takes (reading x) o); buffer = buffer_of (after_write (reading x) o) }, over (after_write (reading x) o).held x.store)
     unfolding writes pick
     write_done = write_works ∙ rw n
 
-    pub write_answer : (written x.buffer o x.store).0.answer ≡ Done
+    pub write_answer : (written x.buffer o x.store).0.answer ≡ Ok (takes (reading x) o)
     write_answer = ap (λ (t : Written × List ℕ). t.0.answer) write_done
 
-    pub write_count : (written x.buffer o x.store).0.count ≡ takes (reading x) o
-    write_count = ap (λ (t : Written × List ℕ). t.0.count) write_done
+    pub write_count : {k : ℕ} → (written x.buffer o x.store).0.answer ≡ Ok k → k ≡ takes (reading x) o
+    write_count e = ap taken_by (sym e ∙ write_answer)
 
     write_box : after_written x o ≡ box_of (after_write (reading x) o) x.store
     write_box = ap {B = Box} (λ (t : Written × List ℕ). record { buffer = t.0.buffer; store = t.1 }) write_done
@@ -152,13 +152,13 @@ module _ (x : Box) (o : List ℕ) (s : Sound x) where
       by false e = rw (write_box e) (box_sound (after_write (reading x) o) x.store s.its_store (length_write (reading x) o (held_short x s)) refl)
 
 -- a write that is done was asked of a sound reader, and not refused
-pub done_says : (x : Box) (o : List ℕ) → (written x.buffer o x.store).0.answer ≡ Done → Sound x × (refused (reading x) ≡ false)
+pub done_says : (x : Box) (o : List ℕ) {n : ℕ} → (written x.buffer o x.store).0.answer ≡ Ok n → Sound x × (refused (reading x) ≡ false)
 unfolding written writes pick
-done_says x o = by (eqb (length x.store) STORE) (sound_buffer x.buffer x.store) (refused (reading x)) _ refl refl refl
+done_says x o {n} = by (eqb (length x.store) STORE) (sound_buffer x.buffer x.store) (refused (reading x)) _ refl refl refl
   where
     by : (a b c : Bool) (done : Written × List ℕ) → eqb (length x.store) STORE ≡ a → sound_buffer x.buffer x.store ≡ b → refused (reading x) ≡ c
         → (pick a (pick b (pick c (not_written Full x.buffer x.store) done) (not_written OutOfBounds x.buffer x.store))
-        (not_written WrongStore x.buffer x.store)).0.answer ≡ Done
+        (not_written WrongStore x.buffer x.store)).0.answer ≡ Ok n
         → Sound x × (refused (reading x) ≡ false)
     by true true false done e f g k = (record { its_store = eqb-true (length x.store) STORE e; its_state = f }, g)
     by true true true done e f g k = let z : ◌≡◌ {A = ℕ} 0 1 = cc in absurd (omega arith)

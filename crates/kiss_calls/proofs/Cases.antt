@@ -15,7 +15,7 @@ use Rattle.room.specs.Room.{over}
 use Rattle.kiss_layout.specs.Escape.{FEND}
 use Rattle.kiss_layout.specs.Scan.{stretch}
 use Rattle.kiss_calls.specs.declared.KissBuffer.{KissBuffer}
-use Rattle.kiss_calls.specs.declared.WriteAnswer.TheVariants.{Done, Full, WrongStore, OutOfBounds}
+use Rattle.kiss_calls.specs.declared.WriteError.TheVariants.{Full, WrongStore, OutOfBounds}
 use Rattle.std.specs.Prelude.{Err, Ok, None, Some}
 use Rattle.room.specs.declared.LentError.TheVariants.{WrongStore as NoStore, OutOfBounds as NoState}
 use Rattle.kiss_reader.specs.Meaning.{enclosed}
@@ -160,7 +160,7 @@ module _ (r : Reader) (store held : List ℕ) (e : settle (flush r) ≡ held) wh
 accepted-over : (kept offered store : List ℕ) → length kept ≤ length store
     → accepted (length kept) offered (over kept store)
     ≡ (
-      record { answer = Done; count = min (length offered) (STORE - length kept); buffer = record { filled = length kept + min (length offered) (STORE - length kept); taken = false } },
+      record { answer = Ok (min (length offered) (STORE - length kept)); buffer = record { filled = length kept + min (length offered) (STORE - length kept); taken = false } },
       over (kept ++ take (min (length offered) (STORE - length kept)) offered) store,
     )
 unfolding accepted
@@ -187,7 +187,7 @@ module _ (r : Reader) (b : KissBuffer) (offered store : List ℕ) where
       let n = min (length offered) (STORE - length kept) in
       let f : length kept + n ≡ length (kept ++ take n offered) = omega (arith, length-append kept (take n offered), length-take n offered) in
       accepted-over kept offered store (omega arith)
-      ∙ ap (λ (m : ℕ). (record { answer = Done; count = n; buffer = record { filled = m; taken = false } }, over (kept ++ take n offered) store)) f
+      ∙ ap (λ (m : ℕ). (record { answer = Ok n; buffer = record { filled = m; taken = false } }, over (kept ++ take n offered) store)) f
       ∙ rw (e, q)
 
 -- ---- what a write keeps

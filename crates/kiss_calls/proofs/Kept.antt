@@ -10,13 +10,13 @@ use lib.ListN.{length}
 use Rattle.choice.specs.Pick.{pick}
 use Rattle.kiss_layout.specs.Build.{Building}
 use Rattle.kiss_layout.proofs.Kept.{built_reads_back}
-use Rattle.kiss_calls.specs.declared.WriteAnswer.TheVariants.{Done, Full, WrongStore, OutOfBounds}
+use Rattle.kiss_calls.specs.declared.WriteError.TheVariants.{Full, WrongStore, OutOfBounds}
 use Rattle.kiss_calls.specs.declared.Written.{Written}
-use Rattle.std.specs.Prelude.{Err}
+use Rattle.std.specs.Prelude.{Ok, Err}
 use Rattle.room.specs.declared.LentError.TheVariants.{WrongStore as WrongStore', OutOfBounds as OutOfBounds'}
 use Rattle.kiss_calls.specs.declared.NextFrame.{NextFrame}
-use Rattle.kiss_reader.specs.Reader.{STORE, next, refused}
-use Rattle.kiss_calls.specs.Calls.{sound_buffer, not_written, writes, written, next_answer, not_sought, found, next_frame, write_number, next_number}
+use Rattle.kiss_reader.specs.Reader.{STORE, next, refused, takes}
+use Rattle.kiss_calls.specs.Calls.{sound_buffer, not_written, writes, written, taken_by, next_answer, not_sought, found, next_frame, write_number, next_number}
 use Rattle.kiss_calls.specs.Promises.{Box, after_written, after_next_frame, RunGivesItsFrames, RefusedKeepsAll, WriteTakesSome, DrainedIsNotRefused, TakingEnds, SoundStaysSound, EveryInputHasItsRun, AllReadBack, none_read, one_read, Demand3}
 use Rattle.kiss_reader.specs.Promises.{AllAccepted, none_accepted, one_accepted}
 use Rattle.kiss_reader.proofs.Frames.{built_frames}
@@ -29,7 +29,7 @@ run_gives_its_frames = run_frames
 
 -- ---- refusals
 
-write_keeps : (x : Box) (o : List ℕ) → write_number (written x.buffer o x.store).0.answer ≢ 0 → ((written x.buffer o x.store).0.count ≡ 0) × (after_written x o ≡ x)
+write_keeps : (x : Box) (o : List ℕ) → write_number (written x.buffer o x.store).0.answer ≢ 0 → (taken_by (written x.buffer o x.store).0.answer ≡ 0) × (after_written x o ≡ x)
 unfolding written writes pick
 write_keeps x o = by (eqb (length x.store) STORE) (sound_buffer x.buffer x.store) (refused (reading x)) _ refl
   where
@@ -37,8 +37,8 @@ write_keeps x o = by (eqb (length x.store) STORE) (sound_buffer x.buffer x.store
     chosen a b c done =
         pick a (pick b (pick c (not_written Full x.buffer x.store) done) (not_written OutOfBounds x.buffer x.store)) (not_written WrongStore x.buffer x.store)
 
-    by : (a b c : Bool) (done : Written × List ℕ) → done.0.answer ≡ Done → write_number (chosen a b c done).0.answer ≢ 0
-        → ((chosen a b c done).0.count ≡ 0) × (record { buffer = (chosen a b c done).0.buffer; store = (chosen a b c done).1 } ≡ x)
+    by : (a b c : Bool) (done : Written × List ℕ) {n : ℕ} → done.0.answer ≡ Ok n → write_number (chosen a b c done).0.answer ≢ 0
+        → (taken_by (chosen a b c done).0.answer ≡ 0) × (record { buffer = (chosen a b c done).0.buffer; store = (chosen a b c done).1 } ≡ x)
     by true true true done e f = (refl, refl)
     by true true false done e f = absurd (f (ap write_number e))
     by true false c done e f = (refl, refl)
@@ -67,14 +67,14 @@ refused_keeps_all x = (write_keeps x, next-keeps x)
 -- ---- and no run gets stuck
 
 pub write_takes_some : WriteTakesSome
-write_takes_some x o e l =
+write_takes_some x o k e l =
     let d = done_says x o e in
-    rw (write_count x o d.0 d.1) (takes-some (reading x) o d.1 l)
+    rw (write_count x o d.0 d.1 e) (takes-some (reading x) o d.1 l)
 
 pub drained_is_not_refused : DrainedIsNotRefused
 drained_is_not_refused x y fs o s d =
     let z = drain_still d s in
-    write_answer y o z.0 (still_not_refused (reading y) z.1)
+    (takes (reading y) o, write_answer y o z.0 (still_not_refused (reading y) z.1))
 
 pub taking_ends : TakingEnds
 taking_ends = drain_exists

@@ -7,6 +7,7 @@ use native.Mathlib.Omega.{arith}
 use lib.ListN.{length, take, drop, length-drop}
 use Rattle.kiss_reader.specs.Meaning.{frames_of}
 use Rattle.kiss_reader.specs.Reader.{Reader, STORE, flush, next, takes, after_write}
+use Rattle.std.specs.Prelude.{Ok}
 use Rattle.kiss_calls.specs.Calls.{next_answer, written}
 use Rattle.kiss_calls.specs.Promises.{Box, new_box, after_written, after_next_frame, Drain, none_left, handed_out, Run, over, write, Sound}
 use Rattle.kiss_reader.proofs.Steps.{next_frames, search_frames, Still, still_new, still_after, still_ends, write_frames, still_not_refused, takes-some, next_shorter}
@@ -39,25 +40,24 @@ drain_still (handed_out {x} e d) s = drain_still d (next_sound x s)
 -- ---- a run
 
 -- a write, then what is taken after it, then the rest
-run_one : (x y : Box) (w : List ℕ) (fs gs : List (List ℕ)) (n : ℕ) → Sound x → Still (reading x) → Taken (after_written x (take n w)) fs y
-    → gs ≡ frames_of ((reading y).held ++ drop (written x.buffer (take n w) x.store).0.count w) → fs ++ gs ≡ frames_of ((reading x).held ++ w)
-run_one x y w fs gs n s t d e =
+run_one : (x y : Box) (w : List ℕ) (fs gs : List (List ℕ)) (k n : ℕ) → (written x.buffer (take n w) x.store).0.answer ≡ Ok k → Sound x → Still (reading x)
+    → Taken (after_written x (take n w)) fs y → gs ≡ frames_of ((reading y).held ++ drop k w) → fs ++ gs ≡ frames_of ((reading x).held ++ w)
+run_one x y w fs gs k n a s t d e =
     let r : Reader = reading x in
     let o : List ℕ = take n w in
-    let k : ℕ = (written x.buffer o x.store).0.count in
     let c = still_not_refused r t in
     ap (λ (hs : List (List ℕ)). fs ++ hs) e
     ∙ sym (d (drop k w))
     ∙ ap (λ (q : Reader). frames_of (flush q ++ drop k w)) (write_reads x o s c)
-    ∙ ap (λ (m : ℕ). frames_of (flush (after_write r o) ++ drop m w)) (write_count x o s c)
+    ∙ ap (λ (m : ℕ). frames_of (flush (after_write r o) ++ drop m w)) (write_count x o s c a)
     ∙ sym (write_frames r n w t)
 
 run-from : {x : Box} {w : List ℕ} {out : List (List ℕ)} → Run x w out → Sound x → Still (reading x) → out ≡ frames_of ((reading x).held ++ w)
 run-from (over {x}) s t = sym (still_ends (reading x) t)
-run-from (write {x} {y} {w} {fs} {gs} n e d rest) s t =
+run-from (write {x} {y} {w} {fs} {gs} {k} n e d rest) s t =
     let a : Sound (after_written x (take n w)) = write_sound x (take n w) s in
     let z = drain_still d a in
-    run_one x y w fs gs n s t (drain_frames d a) (run-from rest z.0 z.1)
+    run_one x y w fs gs k n e s t (drain_frames d a) (run-from rest z.0 z.1)
 
 pub run_frames : (store : List ℕ) → length store ≡ STORE → (w : List ℕ) (out : List (List ℕ)) → Run (new_box store) w out → out ≡ frames_of w
 run_frames store l w out r = run-from r (new_sound store l) still_new
@@ -87,11 +87,11 @@ runs (suc n) x [] s t h = ([], over)
 runs (suc n) x (b ∷ w) s t h =
     let o : List ℕ = take (length (b ∷ w)) (b ∷ w) in
     let c = still_not_refused (reading x) t in
-    let k : ℕ = (written x.buffer o x.store).0.count in
+    let k : ℕ = takes (reading x) o in
     let d = drain_exists (after_written x o) (write_sound x o s) in
     let z = drain_still d.2 (write_sound x o s) in
     let l : 1 ≤ takes (reading x) o = takes-some (reading x) o c (omega arith) in
-    let rest = runs n d.1 (drop k (b ∷ w)) z.0 z.1 (omega (arith, write_count x o s c, length-drop k (b ∷ w))) in
+    let rest = runs n d.1 (drop k (b ∷ w)) z.0 z.1 (omega (arith, l, length-drop k (b ∷ w))) in
     (d.0 ++ rest.0, write {gs = rest.0} (length (b ∷ w)) (write_answer x o s c) d.2 rest.1)
 
 pub run_exists : (store : List ℕ) → length store ≡ STORE → (w : List ℕ) → Run (new_box store) w (frames_of w)

@@ -1,12 +1,12 @@
 -- The reader's calls on its record and its store of 1,713 bytes: answer, record and every byte of the store after each, from document 01's "Answer numbers"
 -- and "Bounds for 8". Assumes nothing.
 use Rattle.std.specs.Prelude.{ℕ, Bool, true, List, [], leb, eqb, length, take, Result, Option, Ok, None, Some, Err}
-use Rattle.std.proofs.Math.Option.{Option, none, some}
+use Rattle.std.proofs.Math.Option.{Option as Maybe, none, some}
 use Rattle.choice.specs.Pick.{pick, and}
 use Rattle.room.specs.Room.{over}
 use Rattle.kiss_calls.specs.declared.KissBuffer.{KissBuffer}
-use Rattle.kiss_calls.specs.declared.WriteAnswer.{WriteAnswer}
-use Rattle.kiss_calls.specs.declared.WriteAnswer.TheVariants.{Done, Full, WrongStore, OutOfBounds}
+use Rattle.kiss_calls.specs.declared.WriteError.{WriteError}
+use Rattle.kiss_calls.specs.declared.WriteError.TheVariants.{Full, WrongStore, OutOfBounds}
 use Rattle.kiss_calls.specs.declared.Written.{Written}
 use Rattle.room.specs.declared.LentError.{LentError}
 use Rattle.room.specs.declared.LentError.TheVariants.{OutOfBounds as NoState, WrongStore as NoStore}
@@ -27,13 +27,13 @@ sound_buffer b store = and (leb b.filled STORE) (pick b.taken (stands_first (tak
 
 -- ---- write
 
-abbrev pub not_written : WriteAnswer → KissBuffer → List ℕ → Written × List ℕ
-not_written answer b store = (record { answer = answer; count = 0; buffer = b }, store)
+abbrev pub not_written : WriteError → KissBuffer → List ℕ → Written × List ℕ
+not_written error b store = (record { answer = Err error; buffer = b }, store)
 
 unfoldable pub writes : Reader → KissBuffer → List ℕ → List ℕ → Written × List ℕ
 writes r b offered store =
     pick (refused r) (not_written Full b store)
-    (record { answer = Done; count = takes r offered; buffer = buffer_of (after_write r offered) }, over (after_write r offered).held store)
+    (record { answer = Ok (takes r offered); buffer = buffer_of (after_write r offered) }, over (after_write r offered).held store)
 
 unfoldable pub written : KissBuffer → List ℕ → List ℕ → Written × List ℕ
 written b offered store =
@@ -41,9 +41,14 @@ written b offered store =
     (pick (sound_buffer b store) (writes (reader_of b store) b offered store) (not_written OutOfBounds b store))
     (not_written WrongStore b store)
 
+-- how many of the offered bytes a write took
+abbrev pub taken_by : Result ℕ WriteError → ℕ
+taken_by (Ok n) = n
+taken_by (Err error) = 0
+
 -- ---- next_frame
 
-abbrev pub next_answer : Option (List ℕ) → Result (Option ℕ) LentError
+abbrev pub next_answer : Maybe (List ℕ) → Result (Option ℕ) LentError
 next_answer none = Ok None
 next_answer (some f) = Ok (Some (length f))
 
@@ -68,11 +73,11 @@ frame_in b store =
 
 -- ---- document 01's numbers for the answers
 
-abbrev pub write_number : WriteAnswer → ℕ
-write_number Done = 0
-write_number Full = 5
-write_number WrongStore = 7
-write_number OutOfBounds = 8
+abbrev pub write_number : Result ℕ WriteError → ℕ
+write_number (Ok n) = 0
+write_number (Err Full) = 5
+write_number (Err WrongStore) = 7
+write_number (Err OutOfBounds) = 8
 
 abbrev pub next_number : Result (Option ℕ) LentError → ℕ
 next_number (Ok (Some n)) = 0

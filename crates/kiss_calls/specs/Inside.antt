@@ -1,9 +1,9 @@
 -- What the reader's inner functions leave. From no document: no promise rests on these. Assumes nothing.
-use Rattle.std.specs.Prelude.{ℕ, ◌+◌, ◌-◌, min, false, List, ◌++◌, eqb, length, take, drop}
+use Rattle.std.specs.Prelude.{ℕ, ◌+◌, ◌-◌, min, false, List, ◌++◌, eqb, length, take, drop, Ok}
 use Rattle.choice.specs.Pick.{pick}
 use Rattle.room.specs.Room.{over}
 use Rattle.kiss_calls.specs.declared.KissBuffer.{KissBuffer}
-use Rattle.kiss_calls.specs.declared.WriteAnswer.TheVariants.{Done, Full}
+use Rattle.kiss_calls.specs.declared.WriteError.TheVariants.{Full}
 use Rattle.kiss_calls.specs.declared.Written.{Written}
 use Rattle.kiss_reader.specs.Reader.{STORE, settle}
 use Rattle.kiss_calls.specs.Calls.{not_written}
@@ -15,7 +15,7 @@ compacted from filled store = (length (settle (drop from (take filled store))), 
 -- the offered bytes that fit stand behind the kept ones
 unfoldable pub accepted : ℕ → List ℕ → List ℕ → Written × List ℕ
 accepted kept offered store = (
-  record { answer = Done; count = min (length offered) (STORE - kept); buffer = record { filled = kept + min (length offered) (STORE - kept); taken = false } },
+  record { answer = Ok (min (length offered) (STORE - kept)); buffer = record { filled = kept + min (length offered) (STORE - kept); taken = false } },
   over (take kept store ++ take (min (length offered) (STORE - kept)) offered) store,
 )
 

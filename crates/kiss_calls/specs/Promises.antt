@@ -4,11 +4,10 @@ use Rattle.kiss_layout.specs.Escape.{FEND}
 use Rattle.kiss_layout.specs.Build.{Building, port_of, command_of, content_of, frame_of}
 use Rattle.kiss_layout.specs.Promises.{ReadsAs}
 use Rattle.kiss_calls.specs.declared.KissBuffer.{KissBuffer}
-use Rattle.kiss_calls.specs.declared.WriteAnswer.TheVariants.{Done}
 use Rattle.kiss_reader.specs.Meaning.{frames_of}
 use Rattle.kiss_reader.specs.Reader.{new_reader, STORE}
 use Rattle.kiss_reader.specs.Promises.{joined, Folds, AllAccepted}
-use Rattle.kiss_calls.specs.Calls.{buffer_of, sound_buffer, written, next_frame, frame_in, write_number, next_number}
+use Rattle.kiss_calls.specs.Calls.{buffer_of, sound_buffer, written, taken_by, next_frame, frame_in, write_number, next_number}
 
 -- ---- runs
 
@@ -36,8 +35,8 @@ pub data Drain : Box → List (List ℕ) → Box → Type 0 where
 -- none is left; and so on, until all is taken
 pub data Run : Box → List ℕ → List (List ℕ) → Type 0 where
   over : {x : Box} → Run x [] []
-  write : {x y : Box} {w : List ℕ} {fs gs : List (List ℕ)} (n : ℕ) → (written x.buffer (take n w) x.store).0.answer ≡ Done
-      → Drain (after_written x (take n w)) fs y → Run y (drop (written x.buffer (take n w) x.store).0.count w) gs → Run x w (fs ++ gs)
+  write : {x y : Box} {w : List ℕ} {fs gs : List (List ℕ)} {k : ℕ} (n : ℕ) → (written x.buffer (take n w) x.store).0.answer ≡ Ok k
+      → Drain (after_written x (take n w)) fs y → Run y (drop k w) gs → Run x w (fs ++ gs)
 
 -- over every run from a new reader, whatever stood in its store, the frames handed out are exactly those of the input
 abbrev pub RunGivesItsFrames : Type 0
@@ -47,7 +46,7 @@ RunGivesItsFrames = (store : List ℕ) → length store ≡ STORE → (w : List 
 abbrev pub RefusedKeepsAll : Type 0
 RefusedKeepsAll =
     (x : Box) → ((offered : List ℕ) → write_number (written x.buffer offered x.store).0.answer ≢ 0
-    → ((written x.buffer offered x.store).0.count ≡ 0) × (after_written x offered ≡ x))
+    → (taken_by (written x.buffer offered x.store).0.answer ≡ 0) × (after_written x offered ≡ x))
     × (next_number (next_frame x.buffer x.store).0.answer ≢ 0 → after_next_frame x ≡ x)
 
 -- ---- and no run gets stuck
@@ -60,12 +59,12 @@ pub record Sound (x : Box) : Type 0 where
 -- a write of one byte or more takes at least one unless it is refused
 abbrev pub WriteTakesSome : Type 0
 WriteTakesSome =
-    (x : Box) (offered : List ℕ) → (written x.buffer offered x.store).0.answer ≡ Done → 1 ≤ length offered
-    → 1 ≤ (written x.buffer offered x.store).0.count
+    (x : Box) (offered : List ℕ) (k : ℕ) → (written x.buffer offered x.store).0.answer ≡ Ok k → 1 ≤ length offered → 1 ≤ k
 
 -- once frames were taken until none is left, no write is refused
 abbrev pub DrainedIsNotRefused : Type 0
-DrainedIsNotRefused = (x y : Box) (fs : List (List ℕ)) (offered : List ℕ) → Sound x → Drain x fs y → (written y.buffer offered y.store).0.answer ≡ Done
+DrainedIsNotRefused =
+    (x y : Box) (fs : List (List ℕ)) (offered : List ℕ) → Sound x → Drain x fs y → (k : ℕ) × ((written y.buffer offered y.store).0.answer ≡ Ok k)
 
 -- taking frames ends
 abbrev pub TakingEnds : Type 0

@@ -5,14 +5,12 @@ use mathlib.Core.Path.{◌≡◌, refl, sym}
 use lib.Dec.{eqb}
 use borrow.Author.Tests.{eqb-true}
 use Rattle.choice.specs.Pick.{pick, and, and_fst, and_snd}
-use Rattle.kiss_calls.specs.declared.WriteAnswer.{WriteAnswer}
-use Rattle.kiss_calls.specs.declared.WriteAnswer.TheVariants.{Done, Full, WrongStore, OutOfBounds}
 use Rattle.kiss_reader.specs.Reader.{STORE as READER}
 use Rattle.packets.specs.Queue.{STORE as PACKETS}
 use Rattle.streams.specs.Queue.{STORE as STREAMS}
 use Rattle.host_record.specs.Host.{stores_fit}
 use Rattle.host_record.proofs.Stores as both
-use Rattle.link_ready.specs.Ready.{link_fits, was_taken}
+use Rattle.link_ready.specs.Ready.{link_fits}
 
 module _ (reader packets streams : ℕ) where
   module _ (e : link_fits reader packets streams ≡ true) where
@@ -40,10 +38,3 @@ module _ (reader packets streams : ℕ) where
       by true true s g = absurd (false≢true (sym g))
       by true false s g = both.unfit packets streams y s f
       by false b s g = f
-
--- bytes are taken with answer 0 only
-pub taken_done : (a : WriteAnswer) → was_taken a ≡ true → a ≡ Done
-taken_done Done e = refl
-taken_done Full e = absurd (false≢true e)
-taken_done WrongStore e = absurd (false≢true e)
-taken_done OutOfBounds e = absurd (false≢true e)

@@ -1,11 +1,11 @@
-// What a write from the host asks: before it touches anything, whether its stores have their lengths; and behind the reader, whether that took the bytes.
+// What a write from the host asks before it touches anything: whether its stores have their lengths.
 #![tactic(auto)]
 
 ghost use Rattle.std.specs.Prelude.{◌≡◌};
-ghost use Rattle.link_ready.specs.Ready.{link_fits, was_taken};
+ghost use Rattle.link_ready.specs.Ready.{link_fits};
 
 use host_record::stores_fit;
-use kiss_calls::{MAX_FRAME_LEN, WriteError};
+use kiss_calls::MAX_FRAME_LEN;
 
 // The test of all lengths, which two calls make.
 pub fn link_fits(reader: usize, packets: usize, streams: usize) -> bool
@@ -15,15 +15,4 @@ pub fn link_fits(reader: usize, packets: usize, streams: usize) -> bool
         return false;
     }
     stores_fit(packets, streams)
-}
-
-pub fn was_taken(answer: Result<usize, WriteError>) -> bool
-    ensures { result ≡ was_taken answer }
-{
-    match answer {
-        WriteAnswer::Done => true,
-        Err(WriteError::Full) => false,
-        Err(WriteError::WrongStore) => false,
-        Err(WriteError::OutOfBounds) => false,
-    }
 }

@@ -1,5 +1,5 @@
 -- The promises of specs/Promises.antt are kept. Assumes nothing.
-use Prim.Native.Nat.{ℕ, zero, suc, ◌+◌, ◌-◌, ◌*◌, ◌≤◌}
+use Prim.Native.Nat.{ℕ, zero, suc, ◌+◌, ◌*◌, ◌≤◌}
 use mathlib.Core.Bool.{Bool, true, false}
 use mathlib.Core.Logic.{◌≢◌}
 use mathlib.Core.Path.{◌≡◌, refl, ap, ◌∙◌}
@@ -16,16 +16,15 @@ use Rattle.room.proofs.Places.{placed-length}
 use Rattle.crc.specs.Crc.{crc_of, two_bytes, sealed}
 use Rattle.protocol.specs.Lsf.{part}
 use Rattle.protocol.specs.Basic.{basic_lsf}
-use Rattle.std.specs.Prelude.{Ok, Err, Result, ℕ}
+use Rattle.std.specs.Prelude.{Ok, Err, Result, ℕ, None}
 use Rattle.packets.specs.declared.Push.TheVariants.{Ignored}
 use Rattle.kiss_layout.specs.declared.PushError.TheVariants.{WrongStore, OutOfBounds}
 use Rattle.kiss_layout.specs.declared.KissError.{KissError}
-use Rattle.kiss_layout.specs.declared.KissError.TheVariants.{MalformedKissFrame as NoPayload}
 use Rattle.kiss_layout.specs.Read.{decoded}
 use Rattle.packets.specs.declared.PacketQueue.{PacketQueue}
 use Rattle.packets.specs.declared.Pushed.{Pushed}
 use Rattle.packets.specs.declared.PacketRead.{PacketRead}
-use Rattle.packets.specs.declared.ReadAnswer.TheVariants.{Nothing, WrongStore as NoStore, OutOfBounds as NoState}
+use Rattle.room.specs.declared.LentError.TheVariants.{WrongStore as NoStore, OutOfBounds as NoState}
 use Rattle.packets.specs.Frames.{frames_of, zeros, data_frames, carried_lsf, carried_body}
 use Rattle.packets.specs.Queue.{ROOM, DATA, STORE, RAW, sound_place, sound_queue, is_empty, Made, malformed, unfit, overlong, fills, basic_room, basic, full, made_basic, made_full, stored, not_pushed, obeyed, pushing, pushed_basic, pushed_full, advanced, lsf_read, data_read, turn, walk, not_read, read_next, read_number}
 use Rattle.packets.specs.Inside.{count_of}
@@ -64,7 +63,7 @@ unfolding read_next pick
 read_keeps q s = by (eqb (length s) STORE) (sound_queue q) (is_empty q)
   where
     chosen : Bool → Bool → Bool → PacketRead
-    chosen a b c = pick a (pick b (pick c (not_read Nothing q) (walk 4 q s)) (not_read NoState q)) (not_read NoStore q)
+    chosen a b c = pick a (pick b (pick c (not_read (Ok None) q) (walk 4 q s)) (not_read (Err NoState) q)) (not_read (Err NoStore) q)
 
     by : (a b c : Bool) → read_number (chosen a b c).answer ≢ 0 → (chosen a b c).queue ≡ q
     by true true true f = refl
@@ -95,15 +94,15 @@ basic_room_length n d l h =
     let c : List ℕ = two_bytes (crc_of (RAW ∷ take n d)) in
     omega (arith, length-append basic_lsf (RAW ∷ placed c d n), basic_lsf_length, placed-length c d n (omega arith))
 
-basic_fit : (x : (Result ℕ KissError)) (d : List ℕ) → length d ≡ 824 → Fits (basic x d)
+basic_fit : (x : Result ℕ KissError) (d : List ℕ) → length d ≡ 824 → Fits (basic x d)
 unfolding basic
-basic_fit (Err NoPayload) d l = fits_malformed
+basic_fit (Err e) d l = fits_malformed
 basic_fit (Ok n) d l =
     pick_all Fits (leb n 822) _ _ (λ h. let k = leb-true n 822 h in fits_fills (basic_room_length n d l k) (omega arith)) (λ _. fits_overlong)
 
-full_fit : (x : (Result ℕ KissError)) (d : List ℕ) → length d ≡ ROOM → count_of x ≤ ROOM → Fits (full x d)
+full_fit : (x : Result ℕ KissError) (d : List ℕ) → length d ≡ ROOM → count_of x ≤ ROOM → Fits (full x d)
 unfolding full
-full_fit (Err NoPayload) d l h = fits_malformed
+full_fit (Err e) d l h = fits_malformed
 full_fit (Ok n) d l h = pick_all Fits _ _ _ (λ _. fits_fills l (omega arith)) (λ _. fits_unfit)
 
 pub made_basic_fit : (f : List ℕ) → Fits (made_basic f)

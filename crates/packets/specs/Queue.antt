@@ -1,16 +1,17 @@
 -- The packet queue: a record of four places, and a store of four rooms of 855 bytes beside it (LSF 30, data 825). What each call answers, and the record and every byte of
 -- the store after it, from document 01 under "The TNC", "Answer numbers" and "Bounds for 8". Assumes nothing.
-use Rattle.std.specs.Prelude.{ℕ, zero, suc, ◌+◌, ◌-◌, ◌*◌, ◌/◌, ◌%◌, min, Bool, true, false, List, [], ◌∷◌, ◌++◌, ltb, leb, eqb, length, get_or, set, take, replicate, Result, Err, Ok}
+use Rattle.std.specs.Prelude.{ℕ, zero, suc, ◌+◌, ◌-◌, ◌*◌, ◌/◌, ◌%◌, min, Bool, true, false, List, [], ◌∷◌, ◌++◌, ltb, leb, eqb, length, get_or, set, take, replicate, Result, Err, Ok, Option, Some, None}
 use Rattle.choice.specs.Pick.{pick, and}
 use Rattle.choice.specs.Cases.{all_pass}
-use Rattle.room.specs.Room.{placed}
+use Rattle.room.specs.declared.LentError.{LentError}
+use Rattle.room.specs.declared.LentError.TheVariants.{WrongStore as NoStore, OutOfBounds as NoState}
+use Rattle.room.specs.Room.{placed, lent_number}
 use Rattle.crc.specs.Crc.{crc_of, two_bytes}
 use Rattle.protocol.specs.Lsf.{part}
 use Rattle.protocol.specs.Basic.{basic_lsf}
-use Rattle.protocol.specs.declared.PacketFrame.{PacketFrame}
-use Rattle.protocol.specs.declared.PacketFrameCounter.TheVariants.{Frame}
+use Rattle.protocol.specs.declared.ModulatorFrame.{ModulatorFrame}
+use Rattle.protocol.specs.declared.ModulatorFrame.TheVariants.{Preamble, Lsf, Stream, Packet as PacketPiece, EndOfTransmission}
 use Rattle.kiss_layout.specs.declared.KissError.{KissError}
-use Rattle.kiss_layout.specs.declared.KissError.TheVariants.{MalformedKissFrame as NoPayload}
 use Rattle.packets.specs.declared.Push.{Push}
 use Rattle.kiss_layout.specs.declared.PushError.{PushError}
 use Rattle.kiss_layout.specs.declared.PushError.TheVariants.{MalformedKissFrame, OutOfBounds, WrongStore}
@@ -19,8 +20,6 @@ use Rattle.kiss_layout.specs.Read.{decoded}
 use Rattle.packets.specs.declared.Place.{Place}
 use Rattle.packets.specs.declared.PacketQueue.{PacketQueue}
 use Rattle.packets.specs.declared.Pushed.{Pushed}
-use Rattle.packets.specs.declared.ReadAnswer.{ReadAnswer}
-use Rattle.packets.specs.declared.ReadAnswer.TheVariants.{Nothing, Lsf, Packet as PacketPiece, End, WrongStore as NoStore, OutOfBounds as NoState}
 use Rattle.packets.specs.declared.PacketRead.{PacketRead}
 use Rattle.packets.specs.Frames.{Packet, AirFrame, setup, piece, zeros, chunk}
 
@@ -75,12 +74,12 @@ basic_room n decoded_room = basic_lsf ++ (RAW ∷ placed (two_bytes (crc_of (RAW
 
 -- up to 822 bytes are queued, more are ignored
 unfoldable pub basic : Result ℕ KissError → List ℕ → Made
-basic (Err NoPayload) decoded_room = malformed
+basic (Err e) decoded_room = malformed
 basic (Ok n) decoded_room = pick (leb n 822) (fills (basic_room n decoded_room) (n + 3)) overlong
 
 -- under 33, or an LSF whose CRC is not 0, is ignored
 unfoldable pub full : Result ℕ KissError → List ℕ → Made
-full (Err NoPayload) decoded_room = malformed
+full (Err e) decoded_room = malformed
 full (Ok n) decoded_room = pick (and (leb 33 n) (eqb (crc_of (take 30 decoded_room)) 0)) (fills decoded_room (n - 30)) unfit
 
 -- every room decoded into is first all zero; behind the type byte there are 824 bytes
@@ -130,11 +129,8 @@ pushed_full q frame store = pushing q store (made_full frame)
 
 -- ---- a read in a packet transmission
 
-abbrev pub no_frame : PacketFrame
-no_frame = record { payload = replicate 25 0; counter = Frame 0 }
-
-abbrev pub not_read : ReadAnswer → PacketQueue → PacketRead
-not_read answer q = record { answer = answer; lsf = record { 0 = replicate 30 0 }; frame = no_frame; queue = q }
+abbrev pub not_read : Result (Option ModulatorFrame) LentError → PacketQueue → PacketRead
+not_read answer q = record { answer = answer; queue = q }
 
 abbrev pub here : PacketQueue → Place
 here q = get_or q.places q.curr no_packet
@@ -150,43 +146,42 @@ advanced q = record { places = q.places; next = q.next; curr = (q.curr + 1) % 4;
 -- the current place's LSF is given
 unfoldable pub lsf_read : PacketQueue → List ℕ → PacketRead
 lsf_read q store =
-    record { answer = Lsf; lsf = record { 0 = part (ROOM * q.curr) 30 store }; frame = no_frame; queue = with_place q (record { due = false; len = (here q).len; sent = (here q).sent }) }
+    record { answer = Ok (Some (Lsf (record { 0 = part (ROOM * q.curr) 30 store }))); queue = with_place q (record { due = false; len = (here q).len; sent = (here q).sent }) }
 
 -- the first frame of the data that it has not sent
 unfoldable pub data_read : PacketQueue → List ℕ → PacketRead
 data_read q store =
     record {
-      answer = PacketPiece;
-      lsf = record { 0 = replicate 30 0 };
-      frame = chunk ((here q).sent / 25) (part (ROOM * q.curr + 30 + (here q).sent) ((here q).len - (here q).sent) store);
+      answer = Ok (Some (PacketPiece (chunk ((here q).sent / 25) (part (ROOM * q.curr + 30 + (here q).sent) ((here q).len - (here q).sent) store))));
       queue = with_place q (record { due = (here q).due; len = (here q).len; sent = (here q).sent + min 25 ((here q).len - (here q).sent) });
     }
 
 -- one place: `on` is what the rest of the queue gives where it is spent
 unfoldable pub turn : PacketQueue → List ℕ → PacketRead → PacketRead
 turn q store on =
-    pick (is_empty q) (not_read End q) (pick (here q).due (lsf_read q store) (pick (eqb (here q).sent (here q).len) on (data_read q store)))
+    pick (is_empty q) (not_read (Ok (Some EndOfTransmission)) q) (pick (here q).due (lsf_read q store) (pick (eqb (here q).sent (here q).len) on (data_read q store)))
 
 -- passes over packets that are spent, at most n of them, until one yields a frame, or answers end of transmission
 unfoldable pub walk : ℕ → PacketQueue → List ℕ → PacketRead
-walk zero q store = not_read End q
+walk zero q store = not_read (Ok (Some EndOfTransmission)) q
 walk (suc n) q store = turn q store (walk n (advanced q) store)
 
 -- where the queue is empty at the call, nothing
 unfoldable pub read_next : PacketQueue → List ℕ → PacketRead
 read_next q store =
     pick (eqb (length store) STORE)
-    (pick (sound_queue q) (pick (is_empty q) (not_read Nothing q) (walk 4 q store)) (not_read NoState q))
-    (not_read NoStore q)
+    (pick (sound_queue q) (pick (is_empty q) (not_read (Ok None) q) (walk 4 q store)) (not_read (Err NoState) q))
+    (not_read (Err NoStore) q)
 
 -- the frames of packets in an answer: one or none
-abbrev pub frames_in : ReadAnswer → PacketRead → List AirFrame
-frames_in Nothing r = []
-frames_in Lsf r = setup r.lsf.0 ∷ []
-frames_in PacketPiece r = piece r.frame ∷ []
-frames_in End r = []
-frames_in NoStore r = []
-frames_in NoState r = []
+abbrev pub frames_in : Result (Option ModulatorFrame) LentError → List AirFrame
+frames_in (Ok None) = []
+frames_in (Ok (Some (Preamble delay))) = []
+frames_in (Ok (Some (Lsf lsf))) = setup lsf.0 ∷ []
+frames_in (Ok (Some (Stream frame))) = []
+frames_in (Ok (Some (PacketPiece frame))) = piece frame ∷ []
+frames_in (Ok (Some EndOfTransmission)) = []
+frames_in (Err e) = []
 
 -- ---- document 01's numbers for the answers
 
@@ -197,10 +192,6 @@ push_number (Err MalformedKissFrame) = 3
 push_number (Err WrongStore) = 7
 push_number (Err OutOfBounds) = 8
 
-abbrev pub read_number : ReadAnswer → ℕ
-read_number Nothing = 0
-read_number Lsf = 0
-read_number PacketPiece = 0
-read_number End = 0
-read_number NoStore = 7
-read_number NoState = 8
+abbrev pub read_number : Result (Option ModulatorFrame) LentError → ℕ
+read_number (Ok frame) = 0
+read_number (Err e) = lent_number e

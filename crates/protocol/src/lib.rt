@@ -3,9 +3,9 @@
 
 mod lsf;
 
-pub use lsf::{DataType, EncryptionType, LsfFrame, Mode};
+pub use lsf::{DataType, EncryptionType, LsfFrame, Mode, UnknownKind};
 
-#[derive(Clone, Copy)]
+#[derive(Debug, Clone, Copy, PartialEq, Eq)]
 pub struct StreamFrame {
     // Which LICH segment is given in this frame, from 0 to 5.
     pub lich_idx: u8,
@@ -16,7 +16,7 @@ pub struct StreamFrame {
     pub stream_data: [u8; 16],
 }
 
-#[derive(Clone, Copy)]
+#[derive(Debug, Clone, Copy, PartialEq, Eq)]
 pub enum PacketFrameCounter {
     // A frame that is not the last: its index, from 0 to 31. All 25 bytes count.
     Frame { index: usize },
@@ -24,14 +24,14 @@ pub enum PacketFrameCounter {
     FinalFrame { payload_len: usize },
 }
 
-#[derive(Clone, Copy)]
+#[derive(Debug, Clone, Copy, PartialEq, Eq)]
 pub struct PacketFrame {
     pub payload: [u8; 25],
     pub counter: PacketFrameCounter,
 }
 
 // What a demodulator hears.
-#[derive(Clone, Copy)]
+#[derive(Debug, Clone, Copy, PartialEq, Eq)]
 pub enum Frame {
     Lsf(LsfFrame),
     Stream(StreamFrame),
@@ -39,7 +39,7 @@ pub enum Frame {
 }
 
 // What a modulator is given, as m17core's modem.rs has it.
-#[derive(Clone, Copy)]
+#[derive(Debug, Clone, Copy, PartialEq, Eq)]
 pub enum ModulatorFrame {
     // In units of 10 ms.
     Preamble { tx_delay: u8 },

@@ -9,12 +9,12 @@ use borrow.Author.Tests.{eq-eqb, ne_eqb, le-leb, lt-leb, ltb-true}
 use Rattle.choice.specs.Pick.{pick, and_fst, and_snd}
 use Rattle.room.specs.Room.{placed}
 use Rattle.crc.specs.Crc.{crc_of}
-use Rattle.std.specs.Prelude.{Result, ℕ, Ok}
+use Rattle.std.specs.Prelude.{Result, ℕ, Ok, Err, None}
 use Rattle.kiss_layout.specs.declared.KissError.{KissError}
 use Rattle.streams.specs.declared.StreamPush.TheVariants.{Ignored, Queued, LsfPending}
 use Rattle.kiss_layout.specs.Stream.{stream_of}
 use Rattle.streams.specs.declared.StreamQueue.{StreamQueue}
-use Rattle.streams.specs.declared.StreamReadAnswer.TheVariants.{Nothing, WrongStore as NoStore, OutOfBounds as NoState}
+use Rattle.room.specs.declared.LentError.TheVariants.{WrongStore as NoStore, OutOfBounds as NoState}
 use Rattle.streams.specs.Layout.{FRAME, bytes_of}
 use Rattle.streams.specs.Queue.{PLACES, LSF, STORE, IGNORED, DATA, sound_queue, empty_queue, queued, with_pending, not_pushed, data_pushed, lsf_pushed, payload_pushed, decoded_pushed, decoded_of, pushed, not_read, lsf_read, frame_read, next_read, read_next}
 
@@ -32,11 +32,11 @@ curr_below q e = ltb-true q.curr PLACES (and_fst _ _ (and_snd _ _ e))
 
 module _ (q : StreamQueue) (frame store : List ℕ) where
   -- past the tests, once the frame is decoded
-  pub pushed-decoded : length store ≡ STORE → sound_queue q ≡ true → {r : (Result ℕ KissError)} (payload : List ℕ) → (r, payload) ≡ decoded_of frame → (d : (Result ℕ KissError)) → r ≡ d
+  pub pushed-decoded : length store ≡ STORE → sound_queue q ≡ true → {r : Result ℕ KissError} (payload : List ℕ) → (r, payload) ≡ decoded_of frame → (d : Result ℕ KissError) → r ≡ d
       → decoded_pushed d q payload store ≡ pushed q frame store
   unfolding pushed pick
   pushed-decoded l e payload p d g =
-      ap (λ (x : (Result ℕ KissError)). decoded_pushed x q payload store) (sym g)
+      ap (λ (x : Result ℕ KissError). decoded_pushed x q payload store) (sym g)
       ∙ ap (λ (x : Result ℕ KissError × List ℕ). decoded_pushed x.0 q x.1 store) p
       ∙ rw (eq-eqb (length store) STORE l, e)
 
@@ -69,15 +69,15 @@ module _ (n : ℕ) (q : StreamQueue) (payload store : List ℕ) where
 -- ---- read_next
 
 module _ (q : StreamQueue) (store : List ℕ) where
-  pub read_wrong : (length store ≡ STORE → ⊥) → not_read NoStore q ≡ read_next q store
+  pub read_wrong : (length store ≡ STORE → ⊥) → not_read (Err NoStore) q ≡ read_next q store
   unfolding read_next pick
   read_wrong f = rw (ne_eqb (length store) STORE f)
 
-  pub read_unsound : length store ≡ STORE → sound_queue q ≡ false → not_read NoState q ≡ read_next q store
+  pub read_unsound : length store ≡ STORE → sound_queue q ≡ false → not_read (Err NoState) q ≡ read_next q store
   unfolding read_next pick
   read_unsound l e = rw (eq-eqb (length store) STORE l, e)
 
-  pub read_empty : length store ≡ STORE → sound_queue q ≡ true → empty_queue q ≡ true → not_read Nothing q ≡ read_next q store
+  pub read_empty : length store ≡ STORE → sound_queue q ≡ true → empty_queue q ≡ true → not_read (Ok None) q ≡ read_next q store
   unfolding read_next next_read pick
   read_empty l e m = rw (eq-eqb (length store) STORE l, e, m)
 

@@ -2,7 +2,6 @@
 use Prim.Native.Nat.{ℕ, ◌+◌, ◌*◌, ◌≤◌, ◌<◌}
 use mathlib.Core.Bool.{Bool, true, false}
 use mathlib.Core.Logic.{◌≢◌}
-use mathlib.Core.Option.{none, some}
 use mathlib.Core.Path.{◌≡◌, refl, sym, ap, ◌∙◌}
 use mathlib.Core.List.{List, [], ◌∷◌, ◌++◌, append-nil, append_assoc}
 use native.Mathlib.Omega.{arith}
@@ -14,7 +13,7 @@ use Rattle.room.specs.Room.{placed}
 use Rattle.room.proofs.Places.{placed-length}
 use Rattle.protocol.specs.declared.StreamFrame.{StreamFrame}
 use Rattle.crc.specs.Crc.{crc_of}
-use Rattle.std.specs.Prelude.{Result, Ok, Err, ℕ}
+use Rattle.std.specs.Prelude.{Result, Ok, Err, Option, Some, None, ℕ}
 use Rattle.streams.specs.declared.StreamPush.{StreamPush}
 use Rattle.kiss_layout.specs.declared.PushError.{PushError}
 use Rattle.streams.specs.declared.StreamPush.TheVariants.{Queued, LsfPending, Ignored}
@@ -23,11 +22,13 @@ use Rattle.kiss_layout.specs.declared.KissError.{KissError}
 use Rattle.kiss_layout.specs.Build.{stream_setup, stream_data, frame_of as built_frame}
 use Rattle.streams.specs.declared.StreamQueue.{StreamQueue}
 use Rattle.streams.specs.declared.StreamPushed.{StreamPushed}
-use Rattle.streams.specs.declared.StreamReadAnswer.{StreamReadAnswer}
-use Rattle.streams.specs.declared.StreamReadAnswer.TheVariants.{Nothing, Lsf, Frame, WrongStore as NoStore, OutOfBounds as NoState}
+use Rattle.room.specs.declared.LentError.{LentError}
+use Rattle.protocol.specs.declared.lsf.LsfFrame.{LsfFrame}
+use Rattle.protocol.specs.declared.ModulatorFrame.{ModulatorFrame}
+use Rattle.protocol.specs.declared.ModulatorFrame.TheVariants.{Preamble, Lsf, Stream, Packet, EndOfTransmission}
 use Rattle.streams.specs.declared.StreamRead.{StreamRead}
 use Rattle.streams.specs.Layout.{FRAME, bytes_of, frame_of}
-use Rattle.streams.specs.Queue.{LSF, IGNORED, DATA, sound_queue, empty_queue, frame_at, queued, unqueued, data_pushed, payload_pushed, decoded_of, pushed, no_frame, lsf_read, frame_read, push_number, read_number}
+use Rattle.streams.specs.Queue.{LSF, IGNORED, DATA, sound_queue, empty_queue, frame_at, queued, unqueued, data_pushed, payload_pushed, decoded_of, pushed, lsf_read, frame_read, push_number, read_number}
 use Rattle.streams.specs.Promises.{Box, push_answer, after_push, next_of, after_read, RefusedKeepsAll, IgnoredKeepsAll, Sound, NewIsSound, SoundStaysSound, frame_in, StoredIsRead, count, frames_from, waiting, added_by, given_by, Run, over, push, read, FirstInFirstOut, lsf_waiting, LsfWaitsUntilRead, FullStopsDataNotLsf, BuiltIsTaken}
 use Rattle.streams.proofs.Stored.{bytes_length, frame_of_lem, payload_five, payload_sixteen}
 use Rattle.streams.proofs.Cases.{next_below, curr_below, pushed-decoded, data_full, data_roomy, lsf_right, payload_short, payload_data, payload_lsf, read_frame}
@@ -46,16 +47,16 @@ module _ (frame : List ℕ) where
   stored_read : frame_of stored ≡ frame_in frame
   stored_read = frame_of_lem (frame_in frame) (payload_five (decoded_of frame).1 (payload_thirty frame)) (payload_sixteen (decoded_of frame).1 (payload_thirty frame))
 
-quiet_adds : {a : (Result StreamPush PushError)} → Quiet a → (f : StreamFrame) → added_by a f ≡ []
+quiet_adds : {a : Result StreamPush PushError} → Quiet a → (f : StreamFrame) → added_by a f ≡ []
 quiet_adds ignored f = refl
 quiet_adds malformed f = refl
 quiet_adds wrong_store f = refl
 quiet_adds out_of_bounds f = refl
 
-silent_gives : {a : StreamReadAnswer} → Silent a → (f : StreamFrame) → given_by a f ≡ []
-silent_gives nothing f = refl
-silent_gives no_store f = refl
-silent_gives no_state f = refl
+silent_gives : {a : Result (Option ModulatorFrame) LentError} → Silent a → given_by a ≡ []
+silent_gives nothing = refl
+silent_gives no_store = refl
+silent_gives no_state = refl
 
 -- the first of the frames that wait, and the others
 first : (q : StreamQueue) (store : List ℕ) → sound_queue q ≡ true → empty_queue q ≡ false
@@ -144,18 +145,18 @@ module _ (x : Box) where
       by (lsf_given t m p) = record { its_store = s.its_store; its_state = pending_sound false x.queue s.its_state }
       by (frame_given t m p) = record { its_store = s.its_store; its_state = unqueued_sound x.queue s.its_state }
 
-  pub read_waiting : waiting x ≡ given_by (next_of x).answer (next_of x).frame ++ waiting (after_read x)
+  pub read_waiting : waiting x ≡ given_by (next_of x).answer ++ waiting (after_read x)
   unfolding lsf_read frame_read waiting count
   read_waiting = by (read_outcome x.queue x.store)
     where
-      by : {r : StreamRead} → Read x.queue x.store r → waiting x ≡ given_by r.answer r.frame ++ waiting (read_box r)
-      by (silent w) = sym (ap (λ (fs : List StreamFrame). fs ++ waiting x) (silent_gives w no_frame))
+      by : {r : StreamRead} → Read x.queue x.store r → waiting x ≡ given_by r.answer ++ waiting (read_box r)
+      by (silent w) = sym (ap (λ (fs : List StreamFrame). fs ++ waiting x) (silent_gives w))
       by (lsf_given t m p) = refl
       by (frame_given t m p) = first x.queue x.store t m
 
 -- ---- refusals, and frames that are ignored
 
-refused_quiet : (a : (Result StreamPush PushError)) → push_number a ≢ 0 → 2 ≤ tag a
+refused_quiet : (a : Result StreamPush PushError) → push_number a ≢ 0 → 2 ≤ tag a
 refused_quiet (Ok Queued) f = absurd (f refl)
 refused_quiet (Ok LsfPending) f = absurd (f refl)
 refused_quiet (Ok Ignored) f = omega arith
@@ -163,12 +164,9 @@ refused_quiet (Err MalformedKissFrame) f = omega arith
 refused_quiet (Err WrongStore) f = omega arith
 refused_quiet (Err OutOfBounds) f = omega arith
 
-refused_silent : (a : StreamReadAnswer) → read_number a ≢ 0 → 2 ≤ read_tag a
-refused_silent Nothing f = omega arith
-refused_silent Lsf f = absurd (f refl)
-refused_silent Frame f = absurd (f refl)
-refused_silent NoStore f = omega arith
-refused_silent NoState f = omega arith
+refused_silent : (a : Result (Option ModulatorFrame) LentError) → read_number a ≢ 0 → 2 ≤ read_tag a
+refused_silent (Ok given) f = absurd (f refl)
+refused_silent (Err e) f = omega arith
 
 pub refused_keeps_all : RefusedKeepsAll
 refused_keeps_all x = (λ frame f. push_keeps x frame (refused_quiet (push_answer x frame) f), λ f. read_keeps x (refused_silent (next_of x).answer f))
@@ -194,7 +192,7 @@ run-waiting {x} s (push {added} frame r) =
     ∙ ap (λ (fs : List StreamFrame). fs ++ added) (sym (push_waiting x frame s))
     ∙ run-waiting (push_sound x frame s) r
 run-waiting {x} {y} s (read {added} {given} r) =
-    let g = given_by (next_of x).answer (next_of x).frame in
+    let g = given_by (next_of x).answer in
     ap (λ (fs : List StreamFrame). fs ++ added) (read_waiting x)
     ∙ append_assoc g (waiting (after_read x)) added
     ∙ ap (λ (fs : List StreamFrame). g ++ fs) (run-waiting (read_sound x s) r)
@@ -212,7 +210,7 @@ stored_is_read x s m p frame = by (outcome x frame)
     q = x.queue
 
     by : {r : StreamPushed × List ℕ} → Pushes x frame r → r.0.answer ≡ (Ok Queued)
-        → ((next_of (pushed_box x frame r)).answer ≡ Frame) × ((next_of (pushed_box x frame r)).frame ≡ frame_in frame)
+        → (next_of (pushed_box x frame r)).answer ≡ Ok (Some (Stream (frame_in frame)))
     by (kept w) a = absurd (omega (arith, quiet_tag w, ap tag a))
     by (data_queued l t e) a =
         let d = placed (stored frame) x.store (FRAME * q.next) in
@@ -220,20 +218,20 @@ stored_is_read x s m p frame = by (outcome x frame)
         let r = read_frame (queued q) d whole (queued_sound q t) (queued_waits q) p in
         let there : frame_at q.curr d ≡ frame_in frame =
         ap (λ (i : ℕ). frame_at i d) (sym (empty_equal q m)) ∙ placed-here (stored frame) x.store q.next (next_below q t) (stored-length frame) l ∙ stored_read frame in
-        (ap (λ (r : StreamRead). r.answer) (sym r), ap (λ (r : StreamRead). r.frame) (sym r) ∙ there)
+        ap (λ (r : StreamRead). r.answer) (sym r) ∙ ap (λ (f : StreamFrame). Ok (Some (Stream f))) there
     by (lsf_taken l t) a = absurd (omega (arith, ap tag a))
 
 -- ---- the LSF
 
 module _ (x : Box) (frame : List ℕ) where
-  lsf_comes : push_answer x frame ≡ (Ok LsfPending) → lsf_waiting (after_push x frame) ≡ some (decoded_of frame).1
+  lsf_comes : push_answer x frame ≡ (Ok LsfPending) → lsf_waiting (after_push x frame) ≡ Some (decoded_of frame).1
   unfolding lsf_waiting pick
   lsf_comes = by (outcome x frame)
     where
-      by : {r : StreamPushed × List ℕ} → Pushes x frame r → r.0.answer ≡ (Ok LsfPending) → lsf_waiting (pushed_box x frame r) ≡ some (decoded_of frame).1
+      by : {r : StreamPushed × List ℕ} → Pushes x frame r → r.0.answer ≡ (Ok LsfPending) → lsf_waiting (pushed_box x frame r) ≡ Some (decoded_of frame).1
       by (kept w) a = absurd (omega (arith, quiet_tag w, ap tag a))
       by (data_queued l t e) a = absurd (omega (arith, ap tag a))
-      by (lsf_taken l t) a = ap some (lsf_there (decoded_of frame).1 x.store (payload_thirty frame) l)
+      by (lsf_taken l t) a = ap Some (lsf_there (decoded_of frame).1 x.store (payload_thirty frame) l)
 
   lsf_stays : push_answer x frame ≢ (Ok LsfPending) → lsf_waiting (after_push x frame) ≡ lsf_waiting x
   unfolding lsf_waiting queued
@@ -242,26 +240,36 @@ module _ (x : Box) (frame : List ℕ) where
       by : {r : StreamPushed × List ℕ} → Pushes x frame r → r.0.answer ≢ (Ok LsfPending) → lsf_waiting (pushed_box x frame r) ≡ lsf_waiting x
       by (kept w) f = refl
       by (data_queued l t e) f =
-          ap (λ (b : List ℕ). pick x.queue.pending (some b) none) (placed_lsf (stored frame) x.store x.queue.next (next_below x.queue t) (stored-length frame) l)
+          ap (λ (b : List ℕ). pick x.queue.pending (Some b) None) (placed_lsf (stored frame) x.store x.queue.next (next_below x.queue t) (stored-length frame) l)
       by (lsf_taken l t) f = absurd (f refl)
 
+-- the LSF in an answer
+lsf_bytes : Result (Option ModulatorFrame) LentError → Option (List ℕ)
+lsf_bytes (Ok (Some (Lsf lsf))) = Some lsf.0
+lsf_bytes (Ok (Some (Stream f))) = None
+lsf_bytes (Ok (Some (Preamble delay))) = None
+lsf_bytes (Ok (Some (Packet f))) = None
+lsf_bytes (Ok (Some EndOfTransmission)) = None
+lsf_bytes (Ok None) = None
+lsf_bytes (Err e) = None
+
 module _ (x : Box) where
-  lsf_goes : (next_of x).answer ≡ Lsf → (lsf_waiting x ≡ some (next_of x).lsf.0) × (lsf_waiting (after_read x) ≡ none) × (empty_queue x.queue ≡ false)
-  unfolding lsf_waiting lsf_read frame_read pick
-  lsf_goes = by (read_outcome x.queue x.store)
+  lsf_goes : (lsf : LsfFrame) → (next_of x).answer ≡ Ok (Some (Lsf lsf)) → (lsf_waiting x ≡ Some lsf.0) × (lsf_waiting (after_read x) ≡ None) × (empty_queue x.queue ≡ false)
+  unfolding lsf_waiting lsf_read frame_read pick lsf_bytes
+  lsf_goes lsf = by (read_outcome x.queue x.store)
     where
-      by : {r : StreamRead} → Read x.queue x.store r → r.answer ≡ Lsf → (lsf_waiting x ≡ some r.lsf.0) × (lsf_waiting (read_box x r) ≡ none) × (empty_queue x.queue ≡ false)
+      by : {r : StreamRead} → Read x.queue x.store r → r.answer ≡ Ok (Some (Lsf lsf)) → (lsf_waiting x ≡ Some lsf.0) × (lsf_waiting (read_box x r) ≡ None) × (empty_queue x.queue ≡ false)
       by (silent w) a = absurd (omega (arith, silent_tag w, ap read_tag a))
-      by (lsf_given t m p) a = (rw p, refl, m)
+      by (lsf_given t m p) a = (rw p (ap lsf_bytes a), refl, m)
       by (frame_given t m p) a = absurd (omega (arith, ap read_tag a))
 
-  lsf_left_lem : (next_of x).answer ≢ Lsf → lsf_waiting (after_read x) ≡ lsf_waiting x
+  lsf_left_lem : ((lsf : LsfFrame) → (next_of x).answer ≢ Ok (Some (Lsf lsf))) → lsf_waiting (after_read x) ≡ lsf_waiting x
   unfolding lsf_waiting lsf_read frame_read unqueued
   lsf_left_lem = by (read_outcome x.queue x.store)
     where
-      by : {r : StreamRead} → Read x.queue x.store r → r.answer ≢ Lsf → lsf_waiting (read_box x r) ≡ lsf_waiting x
+      by : {r : StreamRead} → Read x.queue x.store r → ((lsf : LsfFrame) → r.answer ≢ Ok (Some (Lsf lsf))) → lsf_waiting (read_box x r) ≡ lsf_waiting x
       by (silent w) f = refl
-      by (lsf_given t m p) f = absurd (f refl)
+      by (lsf_given t m p) f = absurd (f _ refl)
       by (frame_given t m p) f = refl
 
 pub lsf_waits_until_read : LsfWaitsUntilRead

@@ -1,9 +1,12 @@
 -- What is promised of the stream queue over several calls, from document 01. Each is proved in proofs/Kept.antt. Assumes nothing.
-use Rattle.std.specs.Prelude.{ℕ, zero, suc, ◌+◌, ◌-◌, ◌%◌, ◌≤◌, ◌<◌, true, false, ◌≢◌, ◌≡◌, List, [], ◌∷◌, ◌++◌, length, Result, Ok, Err}
-use Rattle.std.proofs.Math.Option.{Option, none, some}
+use Rattle.std.specs.Prelude.{ℕ, zero, suc, ◌+◌, ◌-◌, ◌%◌, ◌≤◌, ◌<◌, true, false, ◌≢◌, ◌≡◌, List, [], ◌∷◌, ◌++◌, length, Result, Ok, Err, Option, Some, None}
 use Rattle.choice.specs.Pick.{pick}
 use Rattle.crc.specs.Crc.{crc_of}
+use Rattle.room.specs.declared.LentError.{LentError}
+use Rattle.protocol.specs.declared.lsf.LsfFrame.{LsfFrame}
 use Rattle.protocol.specs.declared.StreamFrame.{StreamFrame}
+use Rattle.protocol.specs.declared.ModulatorFrame.{ModulatorFrame}
+use Rattle.protocol.specs.declared.ModulatorFrame.TheVariants.{Preamble, Lsf, Stream, Packet, EndOfTransmission}
 use Rattle.protocol.specs.Lsf.{part}
 use Rattle.streams.specs.declared.StreamPush.{StreamPush}
 use Rattle.kiss_layout.specs.declared.PushError.{PushError}
@@ -13,8 +16,6 @@ use Rattle.kiss_layout.specs.Stream.{stream_of}
 use Rattle.kiss_layout.specs.Build.{stream_setup, stream_data, frame_of as built_frame}
 use Rattle.kiss_layout.specs.Promises.{Accepted}
 use Rattle.streams.specs.declared.StreamQueue.{StreamQueue}
-use Rattle.streams.specs.declared.StreamReadAnswer.{StreamReadAnswer}
-use Rattle.streams.specs.declared.StreamReadAnswer.TheVariants.{Nothing, Lsf, Frame, WrongStore as NoStore, OutOfBounds as NoState}
 use Rattle.streams.specs.declared.StreamRead.{StreamRead}
 use Rattle.streams.specs.Queue.{PLACES, LSF, STORE, DATA, new_queue, sound_queue, empty_queue, frame_at, after, decoded_of, pushed, read_next, push_number, read_number}
 
@@ -45,7 +46,7 @@ RefusedKeepsAll =
 
 -- an ignored frame leaves no trace, and a read that answers nothing neither
 abbrev pub IgnoredKeepsAll : Type 0
-IgnoredKeepsAll = (x : Box) → ((frame : List ℕ) → push_answer x frame ≡ (Ok Ignored) → after_push x frame ≡ x) × ((next_of x).answer ≡ Nothing → after_read x ≡ x)
+IgnoredKeepsAll = (x : Box) → ((frame : List ℕ) → push_answer x frame ≡ (Ok Ignored) → after_push x frame ≡ x) × ((next_of x).answer ≡ (Ok None) → after_read x ≡ x)
 
 -- ---- the bounds
 
@@ -71,7 +72,7 @@ frame_in frame = stream_of (decoded_of frame).1
 abbrev pub StoredIsRead : Type 0
 StoredIsRead =
     (x : Box) → Sound x → empty_queue x.queue ≡ true → x.queue.pending ≡ false
-    → (frame : List ℕ) → push_answer x frame ≡ (Ok Queued) → ((next_of (after_push x frame)).answer ≡ Frame) × ((next_of (after_push x frame)).frame ≡ frame_in frame)
+    → (frame : List ℕ) → push_answer x frame ≡ (Ok Queued) → (next_of (after_push x frame)).answer ≡ Ok (Some (Stream (frame_in frame)))
 
 -- how many frames wait, and these, first to last
 unfoldable pub count : StreamQueue → ℕ
@@ -93,19 +94,21 @@ added_by (Err MalformedKissFrame) f = []
 added_by (Err WrongStore) f = []
 added_by (Err OutOfBounds) f = []
 
-abbrev pub given_by : StreamReadAnswer → StreamFrame → List StreamFrame
-given_by Nothing f = []
-given_by Lsf f = []
-given_by Frame f = f ∷ []
-given_by NoStore f = []
-given_by NoState f = []
+abbrev pub given_by : Result (Option ModulatorFrame) LentError → List StreamFrame
+given_by (Ok None) = []
+given_by (Ok (Some (Preamble delay))) = []
+given_by (Ok (Some (Lsf lsf))) = []
+given_by (Ok (Some (Stream f))) = f ∷ []
+given_by (Ok (Some (Packet f))) = []
+given_by (Ok (Some EndOfTransmission)) = []
+given_by (Err e) = []
 
 -- any calls, with the frames that they added and the frames that they gave
 pub data Run : Box → List StreamFrame → List StreamFrame → Box → Type 0 where
   over : {x : Box} → Run x [] [] x
   push : {x y : Box} {added given : List StreamFrame} (frame : List ℕ) → Run (after_push x frame) added given y
       → Run x (added_by (push_answer x frame) (frame_in frame) ++ added) given y
-  read : {x y : Box} {added given : List StreamFrame} → Run (after_read x) added given y → Run x added (given_by (next_of x).answer (next_of x).frame ++ given) y
+  read : {x y : Box} {added given : List StreamFrame} → Run (after_read x) added given y → Run x added (given_by (next_of x).answer ++ given) y
 
 -- over any calls from a new queue, whatever stood in its store, the frames read are a beginning of the frames queued, in order, and the rest waits
 abbrev pub FirstInFirstOut : Type 0
@@ -116,15 +119,15 @@ FirstInFirstOut =
 
 -- the LSF that waits
 unfoldable pub lsf_waiting : Box → Option (List ℕ)
-lsf_waiting x = pick x.queue.pending (some (part LSF 30 x.store)) none
+lsf_waiting x = pick x.queue.pending (Some (part LSF 30 x.store)) None
 
 -- an LSF that was taken waits in place of one that waited before; other frames leave it; it is read once, and only while a frame waits
 abbrev pub LsfWaitsUntilRead : Type 0
 LsfWaitsUntilRead =
-    (x : Box) → Sound x → ((frame : List ℕ) → push_answer x frame ≡ (Ok LsfPending) → lsf_waiting (after_push x frame) ≡ some (decoded_of frame).1)
+    (x : Box) → Sound x → ((frame : List ℕ) → push_answer x frame ≡ (Ok LsfPending) → lsf_waiting (after_push x frame) ≡ Some (decoded_of frame).1)
     × ((frame : List ℕ) → push_answer x frame ≢ (Ok LsfPending) → lsf_waiting (after_push x frame) ≡ lsf_waiting x)
-    × ((next_of x).answer ≡ Lsf → (lsf_waiting x ≡ some (next_of x).lsf.0) × (lsf_waiting (after_read x) ≡ none) × (empty_queue x.queue ≡ false))
-    × ((next_of x).answer ≢ Lsf → lsf_waiting (after_read x) ≡ lsf_waiting x)
+    × ((lsf : LsfFrame) → (next_of x).answer ≡ Ok (Some (Lsf lsf)) → (lsf_waiting x ≡ Some lsf.0) × (lsf_waiting (after_read x) ≡ None) × (empty_queue x.queue ≡ false))
+    × (((lsf : LsfFrame) → (next_of x).answer ≢ Ok (Some (Lsf lsf))) → lsf_waiting (after_read x) ≡ lsf_waiting x)
 
 -- a full queue stops data, not an LSF
 abbrev pub FullStopsDataNotLsf : Type 0

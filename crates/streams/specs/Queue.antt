@@ -1,24 +1,24 @@
 -- The stream queue: eight frames in a ring and an LSF that waits, in a record and a store of 230 bytes, and what each call makes of them, from document 01 under
 -- "The TNC", "Answer numbers" and "Bounds for 8". Assumes nothing.
-use Rattle.std.specs.Prelude.{ℕ, ◌+◌, ◌*◌, ◌%◌, Bool, true, false, List, ltb, leb, eqb, length, replicate, Result, Ok, Err}
+use Rattle.std.specs.Prelude.{ℕ, ◌+◌, ◌*◌, ◌%◌, Bool, true, false, List, ltb, leb, eqb, length, replicate, Result, Ok, Err, Option, Some, None}
 use Rattle.choice.specs.Pick.{pick, and}
-use Rattle.room.specs.Room.{placed}
+use Rattle.room.specs.declared.LentError.{LentError}
+use Rattle.room.specs.declared.LentError.TheVariants.{WrongStore as NoStore, OutOfBounds as NoState}
+use Rattle.room.specs.Room.{placed, lent_number}
 use Rattle.crc.specs.Crc.{crc_of}
-use Rattle.protocol.specs.declared.lsf.LsfFrame.{LsfFrame}
+use Rattle.protocol.specs.declared.ModulatorFrame.{ModulatorFrame}
+use Rattle.protocol.specs.declared.ModulatorFrame.TheVariants.{Lsf, Stream}
 use Rattle.protocol.specs.declared.StreamFrame.{StreamFrame}
 use Rattle.protocol.specs.Lsf.{part}
 use Rattle.streams.specs.declared.StreamPush.{StreamPush}
 use Rattle.kiss_layout.specs.declared.PushError.{PushError}
 use Rattle.streams.specs.declared.StreamPush.TheVariants.{Ignored, Queued, LsfPending}
 use Rattle.kiss_layout.specs.declared.KissError.{KissError}
-use Rattle.kiss_layout.specs.declared.KissError.TheVariants.{MalformedKissFrame as NoPayload}
 use Rattle.kiss_layout.specs.declared.PushError.TheVariants.{MalformedKissFrame, OutOfBounds, WrongStore}
 use Rattle.kiss_layout.specs.Read.{decoded}
 use Rattle.kiss_layout.specs.Stream.{stream_of}
 use Rattle.streams.specs.declared.StreamQueue.{StreamQueue}
 use Rattle.streams.specs.declared.StreamPushed.{StreamPushed}
-use Rattle.streams.specs.declared.StreamReadAnswer.{StreamReadAnswer}
-use Rattle.streams.specs.declared.StreamReadAnswer.TheVariants.{Nothing, Lsf, Frame, WrongStore as NoStore, OutOfBounds as NoState}
 use Rattle.streams.specs.declared.StreamRead.{StreamRead}
 use Rattle.streams.specs.Layout.{FRAME, bytes_of, frame_of}
 
@@ -89,7 +89,7 @@ unfoldable pub payload_pushed : ℕ → StreamQueue → List ℕ → List ℕ �
 payload_pushed n q payload store = pick (leb n IGNORED) (not_pushed (Ok Ignored) q store) (pick (leb n DATA) (data_pushed q payload store) (lsf_pushed q payload store))
 
 abbrev pub decoded_pushed : Result ℕ KissError → StreamQueue → List ℕ → List ℕ → StreamPushed × List ℕ
-decoded_pushed (Err NoPayload) q payload store = not_pushed (Err MalformedKissFrame) q store
+decoded_pushed (Err e) q payload store = not_pushed (Err MalformedKissFrame) q store
 decoded_pushed (Ok n) q payload store = payload_pushed n q payload store
 
 -- a frame decoded into a room of 30 bytes that is first all zero: longer payloads are cut to 30
@@ -104,27 +104,21 @@ pushed q frame store =
 
 -- ---- read_next
 
-abbrev pub no_lsf : LsfFrame
-no_lsf = record { 0 = replicate 30 0 }
-
-abbrev pub no_frame : StreamFrame
-no_frame = record { lich_idx = 0; lich_part = replicate 5 0; frame_number = 0; end_of_stream = false; stream_data = replicate 16 0 }
-
-abbrev pub not_read : StreamReadAnswer → StreamQueue → StreamRead
-not_read answer q = record { answer = answer; lsf = no_lsf; frame = no_frame; queue = q }
+abbrev pub not_read : Result (Option ModulatorFrame) LentError → StreamQueue → StreamRead
+not_read answer q = record { answer = answer; queue = q }
 
 unfoldable pub lsf_read : StreamQueue → List ℕ → StreamRead
-lsf_read q store = record { answer = Lsf; lsf = record { 0 = part LSF 30 store }; frame = no_frame; queue = with_pending false q }
+lsf_read q store = record { answer = Ok (Some (Lsf (record { 0 = part LSF 30 store }))); queue = with_pending false q }
 
 unfoldable pub frame_read : StreamQueue → List ℕ → StreamRead
-frame_read q store = record { answer = Frame; lsf = no_lsf; frame = frame_at q.curr store; queue = unqueued q }
+frame_read q store = record { answer = Ok (Some (Stream (frame_at q.curr store))); queue = unqueued q }
 
 -- nothing while the queue is empty; else an LSF that waits comes first, then the frames
 unfoldable pub next_read : StreamQueue → List ℕ → StreamRead
-next_read q store = pick (empty_queue q) (not_read Nothing q) (pick q.pending (lsf_read q store) (frame_read q store))
+next_read q store = pick (empty_queue q) (not_read (Ok None) q) (pick q.pending (lsf_read q store) (frame_read q store))
 
 unfoldable pub read_next : StreamQueue → List ℕ → StreamRead
-read_next q store = pick (eqb (length store) STORE) (pick (sound_queue q) (next_read q store) (not_read NoState q)) (not_read NoStore q)
+read_next q store = pick (eqb (length store) STORE) (pick (sound_queue q) (next_read q store) (not_read (Err NoState) q)) (not_read (Err NoStore) q)
 
 -- ---- document 01's numbers for the answers
 
@@ -136,9 +130,6 @@ push_number (Err MalformedKissFrame) = 3
 push_number (Err WrongStore) = 7
 push_number (Err OutOfBounds) = 8
 
-abbrev pub read_number : StreamReadAnswer → ℕ
-read_number Nothing = 0
-read_number Lsf = 0
-read_number Frame = 0
-read_number NoStore = 7
-read_number NoState = 8
+abbrev pub read_number : Result (Option ModulatorFrame) LentError → ℕ
+read_number (Ok frame) = 0
+read_number (Err e) = lent_number e

@@ -1,8 +1,9 @@
 -- The cases of the TNC's calls: each from the tests on the way to it. Assumes nothing.
 use Prim.Native.Nat.{ℕ}
-use mathlib.Core.Bool.{true, false, false≢true}
+use mathlib.Core.Bool.{true, false}
 use mathlib.Core.Logic.{◌≢◌}
-use mathlib.Core.Path.{◌≡◌, refl, sym, ap, ◌∙◌}
+use mathlib.Core.Path.{◌≡◌, sym, ap, ◌∙◌}
+use Rattle.std.specs.Prelude.{Result, Err}
 use mathlib.Core.List.{List}
 use native.Mathlib.Omega.{arith}
 use lib.ListN.{length}
@@ -10,8 +11,8 @@ use borrow.Author.Tests.{eq-eqb}
 use Rattle.choice.specs.Pick.{pick, and, and_both}
 use Rattle.channel.specs.declared.Channel.{Channel}
 use Rattle.channel.specs.Access.{sound_channel}
-use Rattle.kiss_calls.specs.declared.WriteAnswer.{WriteAnswer}
-use Rattle.kiss_calls.specs.declared.WriteAnswer.TheVariants.{Done, Full, WrongStore, OutOfBounds, WrongStore as NoRoom, OutOfBounds as NoState}
+use Rattle.kiss_calls.specs.declared.WriteError.{WriteError}
+use Rattle.kiss_calls.specs.declared.WriteError.TheVariants.{Full, WrongStore, OutOfBounds, WrongStore as NoRoom, OutOfBounds as NoState}
 use Rattle.kiss_calls.specs.declared.Written.{Written}
 use Rattle.kiss_calls.specs.Calls.{written, write_number}
 use Rattle.kiss_calls.proofs.Kept.{refused_keeps_all}
@@ -21,7 +22,7 @@ use Rattle.streams.specs.Queue.{STORE as STREAMS}
 use Rattle.host_record.specs.declared.Host.{Host}
 use Rattle.host_record.specs.Host.{sound_host}
 use Rattle.host_frame.specs.Promises.{Sound as HostSound}
-use Rattle.link_ready.specs.Ready.{link_fits, was_taken}
+use Rattle.link_ready.specs.Ready.{link_fits}
 use Rattle.link_ready.proofs.Stores.{unfit}
 use Rattle.tnc.specs.declared.KissWritten.{KissWritten}
 use Rattle.tnc.specs.Bytes.{refused, onward, kiss_written}
@@ -31,16 +32,15 @@ use Rattle.tnc_core.proofs.Bounds.{parts}
 use Rattle.tnc_drain.specs.Drain.{reader_box, host_box}
 use Rattle.tnc.specs.declared.TncWritten.{TncWritten}
 use Rattle.tnc.specs.Calls.{not_written, put_back, tnc_written}
-use Rattle.tnc.proofs.Links.{went, not-onward}
+use Rattle.tnc.proofs.Links.{went}
 
 abbrev host_of : Tnc → Channel → Host
 host_of t c = record { sending = t.sending; channel = c }
 
-numbered : (a : WriteAnswer) → was_taken a ≡ false → write_number a ≢ 0
-numbered Done e n = false≢true (sym e)
-numbered Full e n = absurd (omega (arith, n))
-numbered WrongStore e n = absurd (omega (arith, n))
-numbered OutOfBounds e n = absurd (omega (arith, n))
+numbered : (error : WriteError) → write_number (Err error) ≢ 0
+numbered Full n = absurd (omega (arith, n))
+numbered WrongStore n = absurd (omega (arith, n))
+numbered OutOfBounds n = absurd (omega (arith, n))
 
 -- the TNC with what the host's bytes changed, and the stores beside it
 abbrev pub back : Tnc → KissWritten × List ℕ × List ℕ × List ℕ → TncWritten × List ℕ × List ℕ × List ℕ
@@ -78,8 +78,8 @@ module _ (t : Tnc) (c : Channel) (buf reader packets streams : List ℕ) where
       host_sound = record { its_packets = p; its_streams = q; its_host = and_both (parts t s).its_sending n }
 
       -- once the reader has answered
-      pub goes : (a : WriteAnswer) (w : Written) (last : List ℕ) → (w, last) ≡ written t.buffer buf reader → w.answer ≡ a
-          → back t (onward a w.count (reader_box w.buffer last) (host_box (host_of t c) packets streams))
+      pub goes : (a : Result ℕ WriteError) (w : Written) (last : List ℕ) → (w, last) ≡ written t.buffer buf reader → w.answer ≡ a
+          → back t (onward a (reader_box w.buffer last) (host_box (host_of t c) packets streams))
           ≡ tnc_written t c buf reader packets streams
       goes a w last e f =
           ap (back t)
@@ -87,15 +87,13 @@ module _ (t : Tnc) (c : Channel) (buf reader packets streams : List ℕ) where
           ∙ is_written s
 
       -- a reader that took nothing is as it was
-      pub not_taken : {x : TncWritten} (w : Written) (last : List ℕ) → (w, last) ≡ written t.buffer buf reader → was_taken w.answer ≡ false
-          → x ≡ not_written w.answer t c → (x, last, packets, streams) ≡ tnc_written t c buf reader packets streams
-      not_taken w last e f g =
+      pub not_taken : {x : TncWritten} (w : Written) (last : List ℕ) (error : WriteError) → (w, last) ≡ written t.buffer buf reader → w.answer ≡ Err error
+          → x ≡ not_written error t c → (x, last, packets, streams) ≡ tnc_written t c buf reader packets streams
+      not_taken w last error e f g =
           let x = reader_box t.buffer reader in
           let same : reader_box w.buffer last ≡ x =
           ap (λ (k : Written × List ℕ). reader_box k.0.buffer k.1) e
-          ∙ ((refused_keeps_all x).0 buf (numbered (written t.buffer buf reader).0.answer (sym (ap (λ (k : Written × List ℕ). was_taken k.0.answer) e) ∙ f))).1 in
+          ∙ ((refused_keeps_all x).0 buf (λ n. numbered error (ap write_number (sym f ∙ ap (λ (k : Written × List ℕ). k.0.answer) e) ∙ n))).1 in
           (λ i. (g i, last, packets, streams))
-          ∙ (λ i. (put_back t (refused w.answer (sym same i).buffer (host_of t c)), last, packets, streams))
-          ∙ ap (back t)
-          (not-onward w.answer w.count (reader_box w.buffer last) (host_box (host_of t c) packets streams) f)
-          ∙ goes w.answer w last e refl
+          ∙ (λ i. (put_back t (refused error (sym same i).buffer (host_of t c)), last, packets, streams))
+          ∙ goes (Err error) w last e f

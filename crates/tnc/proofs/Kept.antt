@@ -8,12 +8,13 @@ use lib.Dec.{eqb}
 use borrow.Author.Tests.{eqb-false}
 use lib.ListN.{length, take, drop}
 use Rattle.choice.specs.Pick.{pick_all}
-use Rattle.kiss_calls.specs.declared.WriteAnswer.{WriteAnswer}
-use Rattle.kiss_calls.specs.declared.WriteAnswer.TheVariants.{Done, Full, WrongStore, OutOfBounds}
+use Rattle.kiss_calls.specs.declared.WriteError.{WriteError}
+use Rattle.kiss_calls.specs.declared.WriteError.TheVariants.{Full, WrongStore, OutOfBounds}
+use Rattle.std.specs.Prelude.{Result, Ok, Err}
 use Rattle.kiss_calls.specs.declared.Written.{Written}
 use Rattle.kiss_reader.specs.Meaning.{frames_of}
 use Rattle.kiss_reader.specs.Reader.{STORE as READER, refused as refused_by}
-use Rattle.kiss_calls.specs.Calls.{sound_buffer, writes, written, write_number}
+use Rattle.kiss_calls.specs.Calls.{sound_buffer, writes, written, write_number, taken_by}
 use Rattle.kiss_calls.specs.Promises.{Box as ReaderBox, after_written, Drain, Run, over as all_read, write as one_read, Sound as ReaderSound}
 use Rattle.kiss_calls.proofs.Kept as reader
 use Rattle.kiss_reader.proofs.Steps.{Still, still_flush, still_ends}
@@ -33,7 +34,7 @@ use Rattle.tnc.proofs.Links.{went}
 
 -- what holds of every refusal and of what the reader's answer leads to holds of what a write comes to
 each : (l : Link) (buf : List ℕ) (Q : KissWritten × List ℕ × List ℕ × List ℕ → Type 0)
-    → ((a : WriteAnswer) → Q (refused a l.reader.buffer l.host.host, l.reader.store, l.host.packets, l.host.streams))
+    → ((error : WriteError) → Q (refused error l.reader.buffer l.host.host, l.reader.store, l.host.packets, l.host.streams))
     → Q (offered (written l.reader.buffer buf l.reader.store) l.host) → Q (written_at l buf)
 unfolding kiss_written
 each l buf Q f d =
@@ -47,18 +48,16 @@ each l buf Q f d =
 
 -- no byte taken, nothing changed, unless the answer is 0
 abbrev Fair : Link → KissWritten × List ℕ × List ℕ × List ℕ → Type 0
-Fair l r = (write_number r.0.answer ≡ 0 → ⊥) → (r.0.count ≡ 0) × (left_by r ≡ l)
+Fair l r = (write_number r.0.answer ≡ 0 → ⊥) → (taken_by r.0.answer ≡ 0) × (left_by r ≡ l)
 
-onward_fair : (a : WriteAnswer) (count : ℕ) (x : ReaderBox) (l : Link) → ((write_number a ≡ 0 → ⊥) → x ≡ l.reader) → Fair l (onward a count x l.host)
-onward_fair Done count x l k n = absurd (n refl)
-onward_fair Full count x l k n = (refl, λ t. record { reader = k n t; host = l.host })
-onward_fair WrongStore count x l k n = (refl, λ t. record { reader = k n t; host = l.host })
-onward_fair OutOfBounds count x l k n = (refl, λ t. record { reader = k n t; host = l.host })
+onward_fair : (a : Result ℕ WriteError) (x : ReaderBox) (l : Link) → ((write_number a ≡ 0 → ⊥) → x ≡ l.reader) → Fair l (onward a x l.host)
+onward_fair (Ok count) x l k n = absurd (n refl)
+onward_fair (Err error) x l k n = (refl, λ t. record { reader = k n t; host = l.host })
 
 pub refused_keeps_all : RefusedKeepsAll
 refused_keeps_all l buf =
     each l buf (Fair l) (λ a n. (refl, refl))
-    (onward_fair (written l.reader.buffer buf l.reader.store).0.answer _ _ l (λ n. ((reader.refused_keeps_all l.reader).0 buf n).1))
+    (onward_fair (written l.reader.buffer buf l.reader.store).0.answer _ l (λ n. ((reader.refused_keeps_all l.reader).0 buf n).1))
 
 -- ---- the bounds
 
@@ -79,19 +78,19 @@ module _ (l : Link) (buf : List ℕ) (s : Sound l) where
   its_end = drain_still its_drain.2 (write_sound l.reader buf s.its_reader)
 
   -- what a write that is answered 0 comes to
-  module _ (e : (written l.reader.buffer buf l.reader.store).0.answer ≡ Done) where
+  module _ (k : ℕ) (e : (written l.reader.buffer buf l.reader.store).0.answer ≡ Ok k) where
     comes_to : (
-      record { answer = Done; count = (written l.reader.buffer buf l.reader.store).0.count; buffer = its_drain.1.buffer; host = (all_taken its_drain.0 l.host).host },
+      record { answer = Ok k; buffer = its_drain.1.buffer; host = (all_taken its_drain.0 l.host).host },
       its_drain.1.store,
       (all_taken its_drain.0 l.host).packets,
       (all_taken its_drain.0 l.host).streams,
     ) ≡ written_at l buf
     comes_to =
         ap {B = KissWritten × List ℕ × List ℕ × List ℕ}
-        (λ d. (record { answer = Done; count = (written l.reader.buffer buf l.reader.store).0.count; buffer = d.0.buffer; host = d.0.host }, d.1, d.2, d.3))
+        (λ d. (record { answer = Ok k; buffer = d.0.buffer; host = d.0.host }, d.1, d.2, d.3))
         (drained-by its_drain.2 (write_sound l.reader buf s.its_reader) l.host)
         ∙ went l.reader.buffer l.host.host buf l.reader.store l.host.packets l.host.streams
-        s.its_reader.its_store s.its_host.its_packets s.its_host.its_streams s.its_host.its_host Done _ _ refl e
+        s.its_reader.its_store s.its_host.its_packets s.its_host.its_streams s.its_host.its_host (Ok k) _ _ refl e
 
     leaves : record { reader = its_drain.1; host = all_taken its_drain.0 l.host } ≡ after_write l buf
     leaves = ap left_by comes_to
@@ -107,21 +106,19 @@ answer_is l buf s =
     s.its_reader.its_store s.its_host.its_packets s.its_host.its_streams s.its_host.its_host _ _ _ refl refl))
     ∙ by (written l.reader.buffer buf l.reader.store).0.answer
   where
-    by : (a : WriteAnswer) → (onward a (written l.reader.buffer buf l.reader.store).0.count (after_written l.reader buf) l.host).0.answer ≡ a
-    by Done = refl
-    by Full = refl
-    by WrongStore = refl
-    by OutOfBounds = refl
+    by : (a : Result ℕ WriteError) → (onward a (after_written l.reader buf) l.host).0.answer ≡ a
+    by (Ok count) = refl
+    by (Err error) = refl
 
-done_or_not : (a : WriteAnswer) → (P : Type 0) → (a ≡ Done → P) → ((write_number a ≡ 0 → ⊥) → P) → P
-done_or_not Done P f g = f refl
-done_or_not Full P f g = g (λ e. absurd (omega (arith, e)))
-done_or_not WrongStore P f g = g (λ e. absurd (omega (arith, e)))
-done_or_not OutOfBounds P f g = g (λ e. absurd (omega (arith, e)))
+done_or_not : (a : Result ℕ WriteError) → (P : Type 0) → ((k : ℕ) → a ≡ Ok k → P) → ((write_number a ≡ 0 → ⊥) → P) → P
+done_or_not (Ok k) P f g = f k refl
+done_or_not (Err Full) P f g = g (λ e. absurd (omega (arith, e)))
+done_or_not (Err WrongStore) P f g = g (λ e. absurd (omega (arith, e)))
+done_or_not (Err OutOfBounds) P f g = g (λ e. absurd (omega (arith, e)))
 
 pub sound_stays_sound : SoundStaysSound
 sound_stays_sound l buf s =
-    done_or_not (written_at l buf).0.answer (Sound (after_write l buf)) (λ e. leaves_sound l buf s (sym (answer_is l buf s) ∙ e))
+    done_or_not (written_at l buf).0.answer (Sound (after_write l buf)) (λ k e. leaves_sound l buf s k (sym (answer_is l buf s) ∙ e))
     (λ n. subst Sound (sym (refused_keeps_all l buf n).1) s)
 
 -- ---- none is left
@@ -135,21 +132,16 @@ still_none x t =
     }
 
 pub written_leaves_none : WrittenLeavesNone
-written_leaves_none l buf s e =
-    let d = sym (answer_is l buf s) ∙ e in subst (λ (m : Link). NoneLeft m.reader) (leaves l buf s d) (still_none (its_drain l buf s).1 (its_end l buf s).1)
-
--- how many bytes a write took is what the reader took
-count_is : (l : Link) (buf : List ℕ) (s : Sound l) → (written l.reader.buffer buf l.reader.store).0.answer ≡ Done
-    → (written l.reader.buffer buf l.reader.store).0.count ≡ (written_at l buf).0.count
-count_is l buf s e = ap (λ (r : KissWritten × List ℕ × List ℕ × List ℕ). r.0.count) (comes_to l buf s e)
+written_leaves_none l buf k s e =
+    let d = sym (answer_is l buf s) ∙ e in subst (λ (m : Link). NoneLeft m.reader) (leaves l buf s k d) (still_none (its_drain l buf s).1 (its_end l buf s).1)
 
 pub never_stuck : NeverStuck
-never_stuck l buf more s e =
-    let d = sym (answer_is l buf s) ∙ e in let m = after_write l buf in let g = leaves_sound l buf s d in
-    let done : (written m.reader.buffer more m.reader.store).0.answer ≡ Done =
-    subst (λ (k : Link). (written k.reader.buffer more k.reader.store).0.answer ≡ Done) (leaves l buf s d)
+never_stuck l buf more k s e =
+    let d = sym (answer_is l buf s) ∙ e in let m = after_write l buf in let g = leaves_sound l buf s k d in
+    let done : (n : ℕ) × ((written m.reader.buffer more m.reader.store).0.answer ≡ Ok n) =
+    subst (λ (k : Link). (n : ℕ) × ((written k.reader.buffer more k.reader.store).0.answer ≡ Ok n)) (leaves l buf s k d)
     (reader.drained_is_not_refused (x l buf s) (its_drain l buf s).1 (its_drain l buf s).0 more (write_sound l.reader buf s.its_reader) (its_drain l buf s).2) in
-    (answer_is m more g ∙ done, λ n. subst (λ (k : ℕ). 1 ≤ k) (count_is m more g done) (reader.write_takes_some m.reader more done n))
+    (done.0, answer_is m more g ∙ done.1, reader.write_takes_some m.reader more done.0 done.1)
 
 -- ---- any writes
 
@@ -165,24 +157,21 @@ record Obeyed (l m : Link) (w : List ℕ) : Type 0 where
   done : m.host ≡ all_taken out l.host
 
 -- one write, then the others
-obeyed_one : (l m : Link) (w : List ℕ) (n : ℕ) (s : Sound l) → (written l.reader.buffer (take n w) l.reader.store).0.answer ≡ Done
-    → Obeyed (after_write l (take n w)) m (drop (written_at l (take n w)).0.count w) → Obeyed l m w
-obeyed_one l m w n s e o =
-    let d = its_drain l (take n w) s in let q = leaves l (take n w) s e in
+obeyed_one : (l m : Link) (w : List ℕ) (k n : ℕ) (s : Sound l) → (written l.reader.buffer (take n w) l.reader.store).0.answer ≡ Ok k
+    → Obeyed (after_write l (take n w)) m (drop k w) → Obeyed l m w
+obeyed_one l m w k n s e o =
+    let d = its_drain l (take n w) s in let q = leaves l (take n w) s k e in
     record {
       out = d.0 ++ o.out;
-      run =
-          one_read n e d.2
-          (subst (λ (k : ℕ). Run d.1 (drop k w) o.out) (sym (count_is l (take n w) s e))
-          (subst (λ (k : Link). Run k.reader (drop (written_at l (take n w)).0.count w) o.out) (sym q) o.run));
+      run = one_read n e d.2 (subst (λ (j : Link). Run j.reader (drop k w) o.out) (sym q) o.run);
       done = o.done ∙ ap (λ (k : Link). all_taken o.out k.host) (sym q) ∙ sym (taken_both d.0 o.out l.host);
     }
 
 obeys : {l m : Link} {w : List ℕ} → Writes l w m → Sound l → Obeyed l m w
 unfolding all_taken
 obeys over s = record { out = []; run = all_read; done = refl }
-obeys (write {l} {m} {w} n e rest) s =
-    let d = sym (answer_is l (take n w) s) ∙ e in obeyed_one l m w n s d (obeys rest (leaves_sound l (take n w) s d))
+obeys (write {l} {m} {w} {k} n e rest) s =
+    let d = sym (answer_is l (take n w) s) ∙ e in obeyed_one l m w k n s d (obeys rest (leaves_sound l (take n w) s k d))
 
 pub writes_obey_the_frames : WritesObeyTheFrames
 writes_obey_the_frames store len h s w m r =
@@ -190,20 +179,20 @@ writes_obey_the_frames store len h s w m r =
     o.done ∙ ap (λ (fs : List (List ℕ)). all_taken fs h) (run_frames store len w o.out o.run)
 
 -- a write that is answered 0 does what the frames do that it completes
-pub writes-take : (l : Link) (buf : List ℕ) → Sound l → (written l.reader.buffer buf l.reader.store).0.answer ≡ Done
+pub writes-take : (l : Link) (buf : List ℕ) (k : ℕ) → Sound l → (written l.reader.buffer buf l.reader.store).0.answer ≡ Ok k
     → all_taken (frames_held (after_written l.reader buf)) l.host ≡ (after_write l buf).host
 unfolding drained
-writes-take l buf s e =
+writes-take l buf k s e =
     ap (λ (r : KissWritten × List ℕ × List ℕ × List ℕ). (left_by r).host)
     (went l.reader.buffer l.host.host buf l.reader.store l.host.packets l.host.streams
-    s.its_reader.its_store s.its_host.its_packets s.its_host.its_streams s.its_host.its_host Done _ _ refl e)
+    s.its_reader.its_store s.its_host.its_packets s.its_host.its_streams s.its_host.its_host (Ok k) _ _ refl e)
 
 -- a sound reader answers 0 or 5
-pub reader_answers : (P : WriteAnswer → Type 0) (x : ReaderBox) (buf : List ℕ) → ReaderSound x → P Done → P Full → P (written x.buffer buf x.store).0.answer
+pub reader_answers : (P : Result ℕ WriteError → Type 0) (x : ReaderBox) (buf : List ℕ) → ReaderSound x → ((n : ℕ) → P (Ok n)) → P (Err Full) → P (written x.buffer buf x.store).0.answer
 unfolding written writes
 reader_answers P x buf s done full =
     pick_all (λ (r : Written × List ℕ). P r.0.answer) (eqb (length x.store) READER) _ _
     (λ t. pick_all (λ (r : Written × List ℕ). P r.0.answer) (sound_buffer x.buffer x.store) _ _
-    (λ u. pick_all (λ (r : Written × List ℕ). P r.0.answer) (refused_by (reading x)) _ _ (λ v. full) (λ v. done))
+    (λ u. pick_all (λ (r : Written × List ℕ). P r.0.answer) (refused_by (reading x)) _ _ (λ v. full) (λ v. done _))
     (λ u. absurd (false≢true (sym u ∙ s.its_state))))
     (λ t. absurd (eqb-false _ _ t s.its_store))

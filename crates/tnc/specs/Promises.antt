@@ -1,9 +1,8 @@
 -- What is promised of bytes from the host, from document 01. Each is proved in proofs/Kept.antt. Assumes nothing.
-use Rattle.std.specs.Prelude.{ℕ, ◌≤◌, false, ◌≢◌, ◌≡◌, List, [], length, take, drop}
-use Rattle.kiss_calls.specs.declared.WriteAnswer.TheVariants.{Done}
+use Rattle.std.specs.Prelude.{ℕ, ◌≤◌, false, ◌≢◌, ◌≡◌, List, [], length, take, drop, Ok}
 use Rattle.kiss_reader.specs.Meaning.{frames_of}
 use Rattle.kiss_reader.specs.Reader.{STORE as READER}
-use Rattle.kiss_calls.specs.Calls.{write_number}
+use Rattle.kiss_calls.specs.Calls.{write_number, taken_by}
 use Rattle.kiss_calls.specs.Promises.{Box as ReaderBox, new_box, Sound as ReaderSound}
 use Rattle.host_frame.specs.Promises.{Box as HostBox, Sound as HostSound}
 use Rattle.tnc.specs.declared.KissWritten.{KissWritten}
@@ -31,7 +30,7 @@ pub record Sound (l : Link) : Type 0 where
 
 -- with any answer but 0 no byte was taken, and nothing has changed
 abbrev pub RefusedKeepsAll : Type 0
-RefusedKeepsAll = (l : Link) (buf : List ℕ) → write_number (written_at l buf).0.answer ≢ 0 → ((written_at l buf).0.count ≡ 0) × (after_write l buf ≡ l)
+RefusedKeepsAll = (l : Link) (buf : List ℕ) → write_number (written_at l buf).0.answer ≢ 0 → (taken_by (written_at l buf).0.answer ≡ 0) × (after_write l buf ≡ l)
 
 -- a sound link stays sound, whatever the bytes
 abbrev pub SoundStaysSound : Type 0
@@ -43,13 +42,13 @@ pub record NoneLeft (x : ReaderBox) : Type 0 where
   pub none_held : frames_held x ≡ []
 
 abbrev pub WrittenLeavesNone : Type 0
-WrittenLeavesNone = (l : Link) (buf : List ℕ) → Sound l → (written_at l buf).0.answer ≡ Done → NoneLeft (after_write l buf).reader
+WrittenLeavesNone = (l : Link) (buf : List ℕ) (k : ℕ) → Sound l → (written_at l buf).0.answer ≡ Ok k → NoneLeft (after_write l buf).reader
 
 -- then the next write is answered 0, and of one byte or more it takes at least one: a link never gets stuck
 abbrev pub NeverStuck : Type 0
 NeverStuck =
-    (l : Link) (buf more : List ℕ) → Sound l → (written_at l buf).0.answer ≡ Done
-    → ((written_at (after_write l buf) more).0.answer ≡ Done) × (1 ≤ length more → 1 ≤ (written_at (after_write l buf) more).0.count)
+    (l : Link) (buf more : List ℕ) (k : ℕ) → Sound l → (written_at l buf).0.answer ≡ Ok k
+    → (n : ℕ) × ((written_at (after_write l buf) more).0.answer ≡ Ok n) × (1 ≤ length more → 1 ≤ n)
 
 -- ---- any writes
 
@@ -60,8 +59,7 @@ new_link store h = record { reader = new_box store; host = h }
 -- writes over the input w: each is offered the next n bytes of what is not yet taken, for any n, until all is taken
 pub data Writes : Link → List ℕ → Link → Type 0 where
   over : {l : Link} → Writes l [] l
-  write : {l m : Link} {w : List ℕ} (n : ℕ) → (written_at l (take n w)).0.answer ≡ Done
-      → Writes (after_write l (take n w)) (drop (written_at l (take n w)).0.count w) m → Writes l w m
+  write : {l m : Link} {w : List ℕ} {k : ℕ} (n : ℕ) → (written_at l (take n w)).0.answer ≡ Ok k → Writes (after_write l (take n w)) (drop k w) m → Writes l w m
 
 -- cut anywhere, the input does what its frames do, each once, in order
 abbrev pub WritesObeyTheFrames : Type 0

@@ -4,34 +4,31 @@
 // is one of `tnc_new`, ptt one of `Tnc`, set_data_carrier_detect one of `Channel`.
 #![tactic(auto)]
 
-ghost use Rattle.std.specs.Prelude.{◌≡◌};
+ghost use Rattle.std.specs.Prelude.{◌≡◌, Ok};
 ghost use Rattle.tnc.specs.Calls.{not_written, put_back, tnc_written};
 ghost use Rattle.kiss_calls.specs.Promises.{Sound};
 ghost use Rattle.host_frame.specs.Promises.{Sound as HostSound};
-ghost use Rattle.kiss_calls.specs.declared.WriteAnswer.TheVariants.{Done};
 ghost use Rattle.tnc_drain.specs.Drain.{reader_box, host_box};
 ghost use Rattle.tnc.specs.Bytes.{onward, kiss_written};
 
 use channel::Channel;
 use host_record::Host;
 use kiss_calls::{KissBuffer, WriteError};
-use link_ready::{link_fits, was_taken};
+use link_ready::link_fits;
 use tnc_core::Tnc;
 
 #[derive(Clone, Copy)]
 pub struct KissWritten {
-    pub answer: Result<usize, WriteError>,
     // How many of the offered bytes were taken.
-    pub count: usize,
+    pub answer: Result<usize, WriteError>,
     pub buffer: KissBuffer,
     pub host: Host,
 }
 
 #[derive(Clone, Copy)]
 pub struct TncWritten {
-    pub answer: Result<usize, WriteError>,
     // How many of the offered bytes were taken.
-    pub count: usize,
+    pub answer: Result<usize, WriteError>,
     pub tnc: Tnc,
     pub channel: Channel,
 }
@@ -85,7 +82,7 @@ fn take_frames(
     streams: &mut [u8],
 ) -> KissWritten
     requires { Sound (reader_box buffer reader.old) × HostSound (host_box host packets.old streams.old) }
-    ensures { (result, reader.new, packets.new, streams.new) ≡ onward Done count (reader_box buffer reader.old) (host_box host packets.old streams.old) }
+    ensures { (result, reader.new, packets.new, streams.new) ≡ onward (Ok count) (reader_box buffer reader.old) (host_box host packets.old streams.old) }
 {
     let mut held = buffer;
     let mut obeyed = host;
@@ -107,8 +104,8 @@ fn take_frames(
     }
 }
 
-fn not_written(answer: Result<usize, WriteError>, tnc: Tnc, channel: Channel) -> TncWritten
-    ensures { result ≡ not_written answer tnc channel }
+fn not_written(error: WriteError, tnc: Tnc, channel: Channel) -> TncWritten
+    ensures { result ≡ not_written error tnc channel }
 {
     TncWritten {
         answer: answer,

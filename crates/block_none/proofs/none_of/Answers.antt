@@ -1,12 +1,19 @@
--- `block_none::none_of` meets its contract. The invariant says what is left: clear so far, and b nowhere from k on. Assumes nothing.
-use Rattle.std.proofs.Common.{◌-◌, ◌∙◌, arith, rules}
-use Rattle.blocks.proofs.Steps.{test_more, test_done}
+-- `block_none::none_of` meets its contract. Assumes nothing.
+use Rattle.std.proofs.Common.{Bool, ◌≡◌, refl, ap, ◌∙◌, rules}
+use mathlib.Core.Bool.{not, ◌&&◌}
+use lib.Dec.{eqb}
+use Rattle.std.proofs.lemmas.Fn.{fold_over, slice_gives, fronts}
+use Rattle.blocks.specs.Block.{without}
+use Rattle.block_none.proofs.Tested.{tested}
 use Rattle.block_none.proofs.none_of.Goals as goal
 
-pub loop-k-preserved : goal.loop-k-preserved
-loop-k-preserved c =
-    let a = c.args in
-    (search rules, test_more a.b a.t c.loop-k.k c.loop-k.clear (omega arith) ∙ c.loop-k.invariant.1)
-
 pub returns : goal.returns
-returns c = let a = c.args in test_done a.b a.t c.loop-k.k c.loop-k.clear (omega arith) ∙ c.loop-k.invariant.1
+unfolding without
+returns c =
+    let a = c.args in
+    fold_over fronts (λ y. y.now) _ (λ t clear. clear ≡ without a.b t) _
+    (λ t clear x r f j k.
+    let e : r ≡ (clear && not (eqb x.now a.b)) = search rules in
+    (e ∙ ap (λ (p : Bool). p && not (eqb x.now a.b)) j ∙ tested a.b x.now t, search rules))
+    c.iter.result _ _ c.fold.result (slice_gives c.iter.result) refl c.fold.ensures.ran
+    ∙ ap (without a.b) c.iter.ensures.rest
