@@ -78,11 +78,8 @@ fn write_tail(src: &[u8], dst: &mut [u8], at: usize) -> usize
         return at + 1;
     }
     dst[at] = BLANK;
-    let mut i = 0;
     let mut j = at + 1;
-    while i < src.len() {
-        let b = src[i];
-        i += 1;
+    for b in src {
         dst[j] = hex_digit(b / 16);
         dst[j + 1] = hex_digit(b % 16);
         j += 2;
