@@ -10,7 +10,7 @@ use Rattle.choice.specs.Pick.{pick, pick_all, and, and_both}
 use Rattle.channel.specs.declared.Channel.{Channel}
 use Rattle.channel.specs.declared.ChannelSet.{ChannelSet}
 use Rattle.std.specs.Prelude.{Ok, Err, Result}
-use Rattle.channel.specs.declared.ChannelError.TheVariants.{OutOfBounds as NotSet, OutOfRange, OutOfBounds as NoAccess}
+use Rattle.channel.specs.declared.ChannelError.TheVariants.{OutOfBounds, OutOfRange}
 use Rattle.channel.specs.declared.Access.TheVariants.{Sends, Waits}
 use Rattle.channel.specs.declared.Access.{Access}
 use Rattle.channel.specs.declared.ChannelError.{ChannelError}
@@ -67,7 +67,7 @@ sound_stays_sound c e =
 -- ---- refusals
 
 -- a setter that is refused only for the state
-set_keeps : (c d : Channel) (t : Bool) → set_number (pick t (is_set (Ok tt) d) (is_set (Err NotSet) c)).answer ≢ 0 → (pick t (is_set (Ok tt) d) (is_set (Err NotSet) c)).channel ≡ c
+set_keeps : (c d : Channel) (t : Bool) → set_number (pick t (is_set (Ok tt) d) (is_set (Err OutOfBounds) c)).answer ≢ 0 → (pick t (is_set (Ok tt) d) (is_set (Err OutOfBounds) c)).channel ≡ c
 unfolding pick
 set_keeps c d true f = absurd (f refl)
 set_keeps c d false f = refl
@@ -76,8 +76,8 @@ clock_keeps : (c : Channel) (n : ℕ) → set_number (clock_set c n).answer ≢ 
 unfolding clock_set pick
 clock_keeps c n = by (sound_channel c) (leb n LAST)
   where
-    by : (t u : Bool) → set_number (pick t (pick u (is_set (Ok tt) (with_clock c n)) (is_set (Err OutOfRange) c)) (is_set (Err NotSet) c)).answer ≢ 0
-        → (pick t (pick u (is_set (Ok tt) (with_clock c n)) (is_set (Err OutOfRange) c)) (is_set (Err NotSet) c)).channel ≡ c
+    by : (t u : Bool) → set_number (pick t (pick u (is_set (Ok tt) (with_clock c n)) (is_set (Err OutOfRange) c)) (is_set (Err OutOfBounds) c)).answer ≢ 0
+        → (pick t (pick u (is_set (Ok tt) (with_clock c n)) (is_set (Err OutOfRange) c)) (is_set (Err OutOfBounds) c)).channel ≡ c
     by true true f = absurd (f refl)
     by true false f = refl
     by false u f = refl
@@ -93,7 +93,7 @@ due_answered c =
 -- the choices of `accessed`, with what a pending check comes to
 abbrev chosen : Channel → Bool → Bool → Bool → Bool → Accessed → Accessed
 chosen c sound duplex waits carrier due =
-    pick sound (pick duplex (is_accessed (Ok Sends) c) (pick waits due (pick carrier (check_later c) (is_accessed (Ok Sends) c)))) (is_accessed (Err NoAccess) c)
+    pick sound (pick duplex (is_accessed (Ok Sends) c) (pick waits due (pick carrier (check_later c) (is_accessed (Ok Sends) c)))) (is_accessed (Err OutOfBounds) c)
 
 access_keeps : (c : Channel) → access_number (accessed c).answer ≢ 0 → (accessed c).channel ≡ c
 unfolding accessed check_later pick
@@ -121,7 +121,7 @@ refused_keeps_all c =
 waits_not : (a : (Result Access ChannelError)) → a ≡ (Ok Waits) → a ≢ (Ok Sends)
 waits_not a e f = let z : ◌≡◌ {A = ℕ} 0 1 = cc in omega arith
 
-refused-not : (a : (Result Access ChannelError)) → a ≡ (Err NoAccess) → a ≢ (Ok Sends)
+refused-not : (a : (Result Access ChannelError)) → a ≡ (Err OutOfBounds) → a ≢ (Ok Sends)
 refused-not a e f = let z : ◌≡◌ {A = ℕ} 0 1 = cc in omega arith
 
 due_waits : (c : Channel) → c.carrier ≡ true → (check_due c).answer ≡ (Ok Waits)
@@ -133,7 +133,7 @@ unfolding accessed check_later pick
 carrier_holds_back c h d = by (sound_channel c) c.duplex c.waits c.carrier (check_due c) d h (due_waits c h)
   where
     by : (t d w r : Bool) (due : Accessed) → d ≡ false → r ≡ true → due.answer ≡ (Ok Waits) → (chosen c t d w r due).answer ≢ (Ok Sends)
-    by false d w r due e f q = refused-not (Err NoAccess) refl
+    by false d w r due e f q = refused-not (Err OutOfBounds) refl
     by true true w r due e f q = absurd (false≢true (sym e))
     by true false true r due e f q = waits_not due.answer q
     by true false false true due e f q = waits_not (Ok Waits) refl

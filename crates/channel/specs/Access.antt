@@ -3,7 +3,7 @@ use Rattle.std.specs.Prelude.{ℕ, ◌+◌, ◌%◌, ◌^◌, Bool, true, false,
 use Rattle.choice.specs.Pick.{pick, and}
 use Rattle.channel.specs.declared.Channel.{Channel}
 use Rattle.channel.specs.declared.ChannelError.{ChannelError}
-use Rattle.channel.specs.declared.ChannelError.TheVariants.{OutOfRange, OutOfBounds as NotSet, OutOfBounds as NoAccess}
+use Rattle.channel.specs.declared.ChannelError.TheVariants.{OutOfRange, OutOfBounds}
 use Rattle.channel.specs.declared.Access.{Access}
 use Rattle.channel.specs.declared.Access.TheVariants.{Waits, Sends}
 use Rattle.channel.specs.declared.ChannelSet.{ChannelSet}
@@ -47,13 +47,13 @@ abbrev pub is_set : Result (Unit {0}) ChannelError → Channel → ChannelSet
 is_set answer c = record { answer = answer; channel = c }
 
 unfoldable pub clock_set : Channel → ℕ → ChannelSet
-clock_set c n = pick (sound_channel c) (pick (leb n LAST) (is_set (Ok tt) (with_clock c n)) (is_set (Err OutOfRange) c)) (is_set (Err NotSet) c)
+clock_set c n = pick (sound_channel c) (pick (leb n LAST) (is_set (Ok tt) (with_clock c n)) (is_set (Err OutOfRange) c)) (is_set (Err OutOfBounds) c)
 
 unfoldable pub carrier_set : Channel → Bool → ChannelSet
-carrier_set c b = pick (sound_channel c) (is_set (Ok tt) (with_carrier c b)) (is_set (Err NotSet) c)
+carrier_set c b = pick (sound_channel c) (is_set (Ok tt) (with_carrier c b)) (is_set (Err OutOfBounds) c)
 
 unfoldable pub duplex_set : Channel → Bool → ChannelSet
-duplex_set c b = pick (sound_channel c) (is_set (Ok tt) (with_duplex c b)) (is_set (Err NotSet) c)
+duplex_set c b = pick (sound_channel c) (is_set (Ok tt) (with_duplex c b)) (is_set (Err OutOfBounds) c)
 
 -- ---- access
 
@@ -77,16 +77,18 @@ accessed c =
     (pick c.duplex (is_accessed (Ok Sends) c)
     (pick c.waits (check_due c)
     (pick c.carrier (check_later c) (is_accessed (Ok Sends) c))))
-    (is_accessed (Err NoAccess) c)
+    (is_accessed (Err OutOfBounds) c)
 
--- ---- document 01's numbers for the answers
+-- ---- document 01's numbers for what is refused, and for the answers
+
+abbrev pub channel_number : ChannelError → ℕ
+channel_number OutOfRange = 6
+channel_number OutOfBounds = 8
 
 abbrev pub set_number : Result (Unit {0}) ChannelError → ℕ
-set_number (Ok tt) = 0
-set_number (Err OutOfRange) = 6
-set_number (Err NotSet) = 8
+set_number (Ok done) = 0
+set_number (Err e) = channel_number e
 
 abbrev pub access_number : Result Access ChannelError → ℕ
-access_number (Ok Sends) = 0
-access_number (Ok Waits) = 0
-access_number (Err NoAccess) = 8
+access_number (Ok a) = 0
+access_number (Err e) = channel_number e

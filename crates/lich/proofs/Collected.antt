@@ -11,27 +11,9 @@ use lib.Seq.{get_or-take, get_or-drop, ext_get_or}
 use Rattle.choice.specs.Pick.{pick, pick_all}
 use Rattle.room.proofs.Places.{placed-length, placed_there, kept_before, kept_beyond}
 use Rattle.lich.specs.declared.LichCollection.{LichCollection}
-use Rattle.std.specs.Prelude.{Result, ℕ, Err, Ok}
-use Rattle.lich.specs.declared.LichError.{LichError}
-use Rattle.lich.specs.declared.LichError.TheVariants.{OutOfBounds as NoCount}
-use Rattle.lich.specs.declared.Assembly.TheVariants.{Whole, Missing, OutOfBounds as NoAssembly}
-use Rattle.lich.specs.declared.Assembled.{Assembled}
-use Rattle.lich.specs.Lich.{segment_of, heard, heard_count, valid_segments, with_segment, assembled}
+use Rattle.lich.specs.Lich.{segment_of, heard, with_segment}
 use Rattle.lich.specs.Promises.{Segment, after_all, is_among, OfLsf, none, more}
 use Rattle.lich.proofs.Masks.{with_heard, stays_small, then_heard, order_free}
-
--- the assembly, as the code chooses it: by what `valid_segments` answered
-abbrev pub by_count : Result ℕ LichError → List ℕ → Assembled
-by_count (Err NoCount) s = record { answer = NoAssembly; bytes = replicate 30 0 }
-by_count (Ok n) s = pick (eqb n 6) (record { answer = Whole; bytes = s }) (record { answer = Missing; bytes = replicate 30 0 })
-
-pub by_count_lem : (c : LichCollection) (v : (Result ℕ LichError)) → v ≡ valid_segments c → by_count v c.segments ≡ assembled c
-unfolding valid_segments assembled pick
-by_count_lem c v e = ap (λ (x : (Result ℕ LichError)). by_count x c.segments) e ∙ go (leb 64 c.mask)
-  where
-    go : (t : Bool) → by_count (pick t (Err NoCount) (Ok (heard_count c.mask))) c.segments ≡ pick t (by_count (Err NoCount) c.segments) (by_count (Ok (heard_count c.mask)) c.segments)
-    go true = refl
-    go false = refl
 
 -- ---- any calls
 

@@ -9,7 +9,7 @@ use lib.Dec.{eqb, lit<}
 use Rattle.choice.specs.Pick.{pick, tests}
 use Rattle.lsf_layout.specs.Bits.{bits_at}
 use Rattle.lich.specs.declared.LichCollection.{LichCollection}
-use Rattle.lich.specs.declared.Assembly.TheVariants.{Whole}
+use Rattle.std.specs.Prelude.{Ok, Some}
 use Rattle.lich.specs.Lich.{segment_of, heard, heard_count, new_collection, with_segment, segment_set, assembled}
 use Rattle.lich.specs.Promises.{Segment, after_all, is_among, SegmentIsTaken, HeardIsDistinct, AnyOrderGivesBack}
 use Rattle.lich.proofs.Masks.{one_more}
@@ -41,7 +41,7 @@ heard_is_distinct (s ∷ ss) =
     ∙ one_more m i (all_sound_lem ss new_collection new_sound).small s.in_range
     ∙ rw (new-heard ss i s.in_range, as_bit (is_among i ss), heard_is_distinct ss)
 
-whole : (c : LichCollection) → Sound c → ((i : ℕ) → i < 6 → heard i c.mask ≡ 1) → assembled c ≡ record { answer = Whole; bytes = c.segments }
+whole : (c : LichCollection) → Sound c → ((i : ℕ) → i < 6 → heard i c.mask ≡ 1) → assembled c ≡ Ok (Some c.segments)
 unfolding assembled heard_count
 whole c g h =
     let n : heard_count c.mask ≡ 6 = rw (h 0 (lit< tt), h 1 (lit< tt), h 2 (lit< tt), h 3 (lit< tt), h 4 (lit< tt), h 5 (lit< tt)) in
@@ -52,6 +52,6 @@ unfolding pick
 any_order_gives_back f n ss a =
     let g = all_sound_lem ss new_collection new_sound in
     whole (after_all ss new_collection) g (λ i h. new-heard ss i h ∙ ap (λ (b : Bool). pick b 1 0) (a.each_index i h))
-    ∙ ap (λ (x : List ℕ). record { answer = Whole; bytes = x })
+    ∙ ap (λ (x : List ℕ). Ok (Some x))
     (six_segments (after_all ss new_collection).segments f g.thirty n
     (λ i h. all_held f ss a.each_right new_collection new_sound i ∙ ap (λ (b : Bool). pick b (segment_of i f) (segment_of i new_collection.segments)) (a.each_index i h)))

@@ -1,15 +1,12 @@
 -- The LICH collection, from document 01 ("six segments of five bytes .. tells how many of the six segments have been heard, and yields 30 bytes when all have")
 -- and the M17 protocol specification's cutting of an LSF into six segments of five bytes. Assumes nothing.
-use Rattle.std.specs.Prelude.{ℕ, ◌+◌, ◌*◌, List, ltb, leb, eqb, replicate, Result, Ok, Err}
+use Rattle.std.specs.Prelude.{ℕ, ◌+◌, ◌*◌, List, ltb, leb, eqb, replicate, Result, Ok, Err, Option, Some, None}
 use Rattle.choice.specs.Pick.{pick}
 use Rattle.room.specs.Room.{placed}
 use Rattle.lich.specs.declared.LichCollection.{LichCollection}
 use Rattle.lich.specs.declared.LichError.{LichError}
-use Rattle.lich.specs.declared.LichError.TheVariants.{OutOfBounds as NoCount, OutOfBounds as NotSet, IndexOver5}
+use Rattle.lich.specs.declared.LichError.TheVariants.{IndexOver5, OutOfBounds}
 use Rattle.lich.specs.declared.SegmentSet.{SegmentSet}
-use Rattle.lich.specs.declared.Assembly.{Assembly}
-use Rattle.lich.specs.declared.Assembly.TheVariants.{Whole, Missing, OutOfBounds as NoAssembly}
-use Rattle.lich.specs.declared.Assembled.{Assembled}
 use Rattle.lsf_layout.specs.Bits.{Field, bits_at, with_bits_at}
 use Rattle.lsf_layout.specs.Bytes.{part}
 
@@ -32,7 +29,7 @@ abbrev pub new_collection : LichCollection
 new_collection = record { segments = replicate 30 0; mask = 0 }
 
 unfoldable pub valid_segments : LichCollection → Result ℕ LichError
-valid_segments c = pick (leb 64 c.mask) (Err NoCount) (Ok (heard_count c.mask))
+valid_segments c = pick (leb 64 c.mask) (Err OutOfBounds) (Ok (heard_count c.mask))
 
 -- the collection with segment i heard
 unfoldable pub with_segment : ℕ → List ℕ → LichCollection → LichCollection
@@ -40,29 +37,29 @@ with_segment i p c = record { segments = placed p c.segments (5 * i); mask = wit
 
 unfoldable pub segment_set : LichCollection → ℕ → List ℕ → SegmentSet
 segment_set c i p =
-    pick (leb 64 c.mask) (record { answer = Err NotSet; collection = c })
+    pick (leb 64 c.mask) (record { answer = Err OutOfBounds; collection = c })
     (pick (ltb 5 i) (record { answer = Err IndexOver5; collection = c })
     (record { answer = Ok tt; collection = with_segment i p c }))
 
-unfoldable pub assembled : LichCollection → Assembled
-assembled c =
-    pick (leb 64 c.mask) (record { answer = NoAssembly; bytes = replicate 30 0 })
-    (pick (eqb (heard_count c.mask) 6) (record { answer = Whole; bytes = c.segments })
-    (record { answer = Missing; bytes = replicate 30 0 }))
+-- all six segments, once they have been heard; until then there is no LSF yet
+unfoldable pub assembled : LichCollection → Result (Option (List ℕ)) LichError
+assembled c = pick (leb 64 c.mask) (Err OutOfBounds) (pick (eqb (heard_count c.mask) 6) (Ok (Some c.segments)) (Ok None))
 
--- ---- document 01's numbers for the answers
+-- ---- document 01's numbers for what is refused, and for the answers
+
+abbrev pub lich_number : LichError → ℕ
+lich_number IndexOver5 = 6
+lich_number OutOfBounds = 8
 
 abbrev pub count_number : Result ℕ LichError → ℕ
 count_number (Ok n) = 0
-count_number (Err NoCount) = 8
+count_number (Err e) = lich_number e
 
 abbrev pub set_number : Result (Unit {0}) LichError → ℕ
-set_number (Ok tt) = 0
-set_number (Err IndexOver5) = 6
-set_number (Err NotSet) = 8
+set_number (Ok done) = 0
+set_number (Err e) = lich_number e
 
--- `Missing` is an answer 0: the result is that there is none yet
-abbrev pub assembly_number : Assembly → ℕ
-assembly_number Whole = 0
-assembly_number Missing = 0
-assembly_number NoAssembly = 8
+-- an LSF that is not there yet is an answer 0 too
+abbrev pub assembly_number : Result (Option (List ℕ)) LichError → ℕ
+assembly_number (Ok lsf) = 0
+assembly_number (Err e) = lich_number e

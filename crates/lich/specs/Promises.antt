@@ -1,8 +1,7 @@
 -- What is promised of the LICH collection over several calls, from document 01 under "LSF, LICH, frames". Each is proved in proofs/Kept.antt. Assumes nothing.
-use Rattle.std.specs.Prelude.{ℕ, suc, ◌<◌, Bool, true, false, ◌≡◌, List, [], ◌∷◌, eqb, length, Ok}
+use Rattle.std.specs.Prelude.{ℕ, suc, ◌<◌, Bool, true, false, ◌≡◌, List, [], ◌∷◌, eqb, length, Ok, Some}
 use Rattle.choice.specs.Pick.{pick}
 use Rattle.lich.specs.declared.LichCollection.{LichCollection}
-use Rattle.lich.specs.declared.Assembly.TheVariants.{Whole}
 use Rattle.lich.specs.Lich.{segment_of, heard_count, new_collection, with_segment, segment_set, assembled}
 
 -- calls of set_segment that are accepted, first to last: an index of 0 to 5 and a segment of five bytes
@@ -48,4 +47,4 @@ pub record AllOf (f : List ℕ) (ss : List Segment) : Type 0 where
 -- they give the LSF back
 abbrev pub AnyOrderGivesBack : Type 0
 AnyOrderGivesBack =
-    (f : List ℕ) → length f ≡ 30 → (ss : List Segment) → AllOf f ss → assembled (after_all ss new_collection) ≡ record { answer = Whole; bytes = f }
+    (f : List ℕ) → length f ≡ 30 → (ss : List Segment) → AllOf f ss → assembled (after_all ss new_collection) ≡ Ok (Some f)

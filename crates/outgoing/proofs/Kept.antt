@@ -12,8 +12,9 @@ use borrow.Author.Tests.{le-leb, eq-eqb, eqb-true}
 use Rattle.choice.specs.Pick.{pick, pick_all, and, and_both}
 use Rattle.outgoing.specs.declared.Outgoing.{Outgoing}
 use Rattle.outgoing.specs.declared.HostRead.{HostRead}
-use Rattle.outgoing.specs.declared.HostAnswer.TheVariants.{Done, WrongStore, OutOfBounds}
-use Rattle.outgoing.specs.Message.{STORE, no_message, sound_message, left, read_up_to, given, not_read, host_read, host_number}
+use Rattle.room.specs.declared.LentError.TheVariants.{WrongStore, OutOfBounds}
+use Rattle.std.specs.Prelude.{Ok}
+use Rattle.outgoing.specs.Message.{STORE, no_message, sound_message, left, read_up_to, given, not_read, host_read, read_count, host_number}
 use Rattle.outgoing.specs.Promises.{NewIsSound, SoundStaysSound, RefusedKeepsAll, ReadGivesTheNext, RoomTakesAll}
 use Rattle.outgoing.proofs.Messages.{sound_read, sound_len, read_sound}
 
@@ -50,9 +51,9 @@ refused_keeps_all o store target = by (eqb (length store) STORE) (sound_message 
     chosen : Bool → Bool → HostRead × List ℕ → HostRead × List ℕ
     chosen t u done = pick t (pick u done (not_read OutOfBounds o target)) (not_read WrongStore o target)
 
-    by : (t u : Bool) (done : HostRead × List ℕ) → done.0.answer ≡ Done → host_number (chosen t u done).0.answer ≢ 0
+    by : (t u : Bool) (done : HostRead × List ℕ) → host_number done.0.answer ≡ 0 → host_number (chosen t u done).0.answer ≢ 0
         → ((chosen t u done).0.outgoing ≡ o) × ((chosen t u done).1 ≡ target)
-    by true true done e f = absurd (f (ap host_number e))
+    by true true done e f = absurd (f e)
     by true false done e f = (refl, refl)
     by false u done e f = (refl, refl)
 
@@ -78,7 +79,7 @@ read_gives_the_next o store target l e =
     let s = sym (read_sound o store target l e) in
     let h : r + n ≤ o.len = omega (arith, sound_read o e) in
     let k : length part ≡ n = length-take-le n (drop r store) (omega (arith, length-drop r store, sound_len o e)) in
-    ap (λ (x : HostRead × List ℕ). take x.0.count x.1 ++ left x.0.outgoing store) s
+    ap (λ (x : HostRead × List ℕ). take (read_count x.0.answer) x.1 ++ left x.0.outgoing store) s
     ∙ ap (λ (x : List ℕ). x ++ left (read_up_to o (r + n)) store) (take_at part (drop (length part) target) n k)
     ∙ ap (λ (x : List ℕ). part ++ x) (left_after_lem o store n h ∙ ap (take (o.len - r - n)) (sym (drop-drop n r store)))
     ∙ pieces (o.len - r) n (drop r store) (omega arith)
@@ -91,4 +92,4 @@ room_takes_all o store target l e f =
     let n : given o target ≡ m = omega (arith, k) in
     let q : r + given o target ≡ o.len = omega (arith, n, sound_read o e) in
     let s = sym (read_sound o store target l e) in
-    (ap (λ (x : HostRead × List ℕ). x.0.count) s ∙ n ∙ sym k, ap (λ (x : HostRead × List ℕ). x.0.outgoing) s ∙ rw (eq-eqb (r + given o target) o.len q))
+    (ap (λ (x : HostRead × List ℕ). x.0.answer) s ∙ ap Ok (n ∙ sym k), ap (λ (x : HostRead × List ℕ). x.0.outgoing) s ∙ rw (eq-eqb (r + given o target) o.len q))

@@ -8,7 +8,7 @@ use borrow.Author.Tests.{eq-eqb, leb-true}
 use Rattle.choice.specs.Pick.{pick, and_fst, and_snd}
 use Rattle.room.specs.Room.{over}
 use Rattle.outgoing.specs.declared.Outgoing.{Outgoing}
-use Rattle.outgoing.specs.declared.HostAnswer.TheVariants.{Done}
+use Rattle.std.specs.Prelude.{Ok}
 use Rattle.outgoing.specs.Message.{STORE, sound_message, read_up_to, given, host_read}
 
 pub sound_read : (o : Outgoing) → sound_message o ≡ true → o.read ≤ o.len
@@ -20,7 +20,7 @@ unfolding sound_message
 sound_len o e = leb-true o.len STORE (and_snd _ _ e)
 
 pub read_sound : (o : Outgoing) (store target : List ℕ) → length store ≡ STORE → sound_message o ≡ true
-    → (record { answer = Done; count = given o target; outgoing = read_up_to o (o.read + given o target) }, over (take (given o target) (drop o.read store)) target)
+    → (record { answer = Ok (given o target); outgoing = read_up_to o (o.read + given o target) }, over (take (given o target) (drop o.read store)) target)
     ≡ host_read o store target
 unfolding host_read pick
 read_sound o store target l e = rw (eq-eqb (length store) STORE l, e)

@@ -1,7 +1,7 @@
 -- What is promised of the message to the host, from document 01 under "To the host" and "Answer numbers". Each is proved in proofs/Kept.antt. Assumes nothing.
-use Rattle.std.specs.Prelude.{ℕ, ◌≤◌, true, ◌≢◌, ◌≡◌, List, ◌++◌, length, take}
+use Rattle.std.specs.Prelude.{ℕ, ◌≤◌, true, ◌≢◌, ◌≡◌, List, ◌++◌, length, take, Ok}
 use Rattle.outgoing.specs.declared.Outgoing.{Outgoing}
-use Rattle.outgoing.specs.Message.{STORE, no_message, sound_message, left, host_read, host_number}
+use Rattle.outgoing.specs.Message.{STORE, no_message, sound_message, left, host_read, read_count, host_number}
 
 abbrev pub NewIsSound : Type 0
 NewIsSound = sound_message no_message ≡ true
@@ -19,10 +19,10 @@ RefusedKeepsAll =
 abbrev pub ReadGivesTheNext : Type 0
 ReadGivesTheNext =
     (o : Outgoing) (store target : List ℕ) → length store ≡ STORE → sound_message o ≡ true
-    → take (host_read o store target).0.count (host_read o store target).1 ++ left (host_read o store target).0.outgoing store ≡ left o store
+    → take (read_count (host_read o store target).0.answer) (host_read o store target).1 ++ left (host_read o store target).0.outgoing store ≡ left o store
 
 -- a target that has the room takes all that is left, and the message is gone
 abbrev pub RoomTakesAll : Type 0
 RoomTakesAll =
     (o : Outgoing) (store target : List ℕ) → length store ≡ STORE → sound_message o ≡ true → length (left o store) ≤ length target
-    → ((host_read o store target).0.count ≡ length (left o store)) × ((host_read o store target).0.outgoing ≡ no_message)
+    → ((host_read o store target).0.answer ≡ Ok (length (left o store))) × ((host_read o store target).0.outgoing ≡ no_message)

@@ -8,11 +8,9 @@ use borrow.Author.Tests.{eq-eqb}
 use Rattle.choice.specs.Pick.{pick, and_both}
 use Rattle.kiss_layout.specs.Build.{frame_of}
 use Rattle.kiss_layout.proofs.Kept.{built_at_most_1713}
-use Rattle.std.specs.Prelude.{Result}
+use Rattle.std.specs.Prelude.{Bool, true, false, Result, Ok, Err}
 use Rattle.radio.specs.declared.AirError.{AirError}
 use Rattle.radio.specs.declared.Heard.{Heard}
-use Rattle.radio.specs.declared.Hears.{Hears}
-use Rattle.radio.specs.declared.Hears.TheVariants.{Frame, Answer}
 use Rattle.radio.specs.Radio.{RX, MESSAGE, sound_radio, answered, hears_by, hears_of, listening, unless_sending}
 use Rattle.radio.specs.Box.{Box, Receiving}
 use Rattle.radio.specs.Promises.{AnsweredKeepsAll, ReceivingHears, OnlyReceivingHears, ListenedTo, SendingHearsNothing, ToHostIsTold, ToldStaysSound}
@@ -40,9 +38,10 @@ pub each : (P : Heard × List ℕ × List ℕ → Type 0) (x : Box) (h : Heard �
 unfolding unless_sending
 each P x h kept f = go (hears_of x.radio x.rx x.out) refl
   where
-    go : (k : Hears) → hears_of x.radio x.rx x.out ≡ k → P (listening k x.radio x.rx x.out h)
-    go Frame e = f (frame-only x e)
-    go (Answer a) e = kept a
+    go : (k : Result Bool AirError) → hears_of x.radio x.rx x.out ≡ k → P (listening k x.radio x.rx x.out h)
+    go (Ok true) e = f (frame-only x e)
+    go (Ok false) e = kept (Ok tt)
+    go (Err a) e = kept (Err a)
 
 pub answered_keeps_all : AnsweredKeepsAll
 answered_keeps_all a r = (refl, refl)

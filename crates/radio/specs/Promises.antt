@@ -9,7 +9,6 @@ use Rattle.state.specs.State.{transmits, sound_state}
 use Rattle.radio.specs.declared.AirError.{AirError}
 use Rattle.radio.specs.declared.Heard.{Heard}
 use Rattle.radio.specs.declared.Radio.{Radio}
-use Rattle.radio.specs.declared.Hears.TheVariants.{Frame}
 use Rattle.radio.specs.Radio.{answered, to_host, hears_of, unless_sending}
 use Rattle.radio.specs.Box.{Box, left_by, Sound, Receiving}
 
@@ -19,10 +18,10 @@ AnsweredKeepsAll = (a : (Result (Unit {0}) AirError)) (r : Radio) → ((answered
 
 -- a frame is listened to exactly where all is sound and PTT is off
 abbrev pub ReceivingHears : Type 0
-ReceivingHears = (x : Box) → Receiving x → hears_of x.radio x.rx x.out ≡ Frame
+ReceivingHears = (x : Box) → Receiving x → hears_of x.radio x.rx x.out ≡ Ok true
 
 abbrev pub OnlyReceivingHears : Type 0
-OnlyReceivingHears = (x : Box) → hears_of x.radio x.rx x.out ≡ Frame → Receiving x
+OnlyReceivingHears = (x : Box) → hears_of x.radio x.rx x.out ≡ Ok true → Receiving x
 
 -- then it does what it does
 abbrev pub ListenedTo : Type 0

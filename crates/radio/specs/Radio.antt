@@ -1,5 +1,5 @@
 -- The radio's record and what every call with a frame from the air has in common, from document 01's "From the air", "Answer numbers" and "Bounds for 8". Assumes nothing.
-use Rattle.std.specs.Prelude.{ℕ, Bool, List, eqb, length, Result, Ok, Err}
+use Rattle.std.specs.Prelude.{ℕ, Bool, true, false, not, List, eqb, length, Result, Ok, Err}
 use Rattle.choice.specs.Pick.{pick, and}
 use Rattle.room.specs.Room.{over}
 use Rattle.kiss_layout.specs.Build.{Building, frame_of}
@@ -10,8 +10,6 @@ use Rattle.radio.specs.declared.Radio.{Radio}
 use Rattle.radio.specs.declared.AirError.{AirError}
 use Rattle.radio.specs.declared.AirError.TheVariants.{WrongStore, OutOfBounds, OutOfRange}
 use Rattle.radio.specs.declared.Heard.{Heard}
-use Rattle.radio.specs.declared.Hears.{Hears}
-use Rattle.radio.specs.declared.Hears.TheVariants.{Frame, Answer}
 
 -- the lengths of the two stores: an LSF of 30 bytes and a packet of 825; the longest message
 abbrev pub RX : ℕ
@@ -34,28 +32,33 @@ turned s r = answered (Ok tt) (record { state = s; outgoing = r.outgoing })
 abbrev pub to_host : State → Building → List ℕ → Heard × List ℕ
 to_host s b out = (answered (Ok tt) (record { state = s; outgoing = record { len = length (frame_of b); read = 0 } }), over (frame_of b) out)
 
--- the order is 7 for the stores, 8 for the record, and then, while PTT is on, 0
-unfoldable pub hears_by : Radio → ℕ → ℕ → Hears
+-- whether a frame is listened to. The order is 7 for the stores, 8 for the record, and then, while PTT is on, it is not.
+unfoldable pub hears_by : Radio → ℕ → ℕ → Result Bool AirError
 hears_by r rx out =
     pick (eqb rx RX)
-    (pick (eqb out MESSAGE) (pick (sound_radio r) (pick (transmits r.state) (Answer (Ok tt)) Frame) (Answer (Err OutOfBounds))) (Answer (Err WrongStore)))
-    (Answer (Err WrongStore))
+    (pick (eqb out MESSAGE) (pick (sound_radio r) (Ok (not (transmits r.state))) (Err OutOfBounds)) (Err WrongStore))
+    (Err WrongStore)
 
 -- of the stores only their lengths count
-abbrev pub hears_of : Radio → List ℕ → List ℕ → Hears
+abbrev pub hears_of : Radio → List ℕ → List ℕ → Result Bool AirError
 hears_of r rx out = hears_by r (length rx) (length out)
 
-abbrev pub listening : Hears → Radio → List ℕ → List ℕ → Heard × List ℕ × List ℕ → Heard × List ℕ × List ℕ
-listening Frame r rx out h = h
-listening (Answer a) r rx out h = (answered a r, rx, out)
+-- a frame that is not listened to is answered 0
+abbrev pub listening : Result Bool AirError → Radio → List ℕ → List ℕ → Heard × List ℕ × List ℕ → Heard × List ℕ × List ℕ
+listening (Ok true) r rx out h = h
+listening (Ok false) r rx out h = (answered (Ok tt) r, rx, out)
+listening (Err e) r rx out h = (answered (Err e) r, rx, out)
 
 -- what a frame does, unless the call is refused or, since PTT is on, the frame is ignored: then nothing changes
 unfoldable pub unless_sending : Radio → List ℕ → List ℕ → Heard × List ℕ × List ℕ → Heard × List ℕ × List ℕ
 unless_sending r rx out h = listening (hears_of r rx out) r rx out h
 
--- document 01's numbers for the answers
+-- document 01's numbers for what is refused, and for the answers
+abbrev pub air_error_number : AirError → ℕ
+air_error_number OutOfRange = 6
+air_error_number WrongStore = 7
+air_error_number OutOfBounds = 8
+
 abbrev pub air_number : Result (Unit {0}) AirError → ℕ
-air_number (Ok tt) = 0
-air_number (Err OutOfRange) = 6
-air_number (Err WrongStore) = 7
-air_number (Err OutOfBounds) = 8
+air_number (Ok done) = 0
+air_number (Err e) = air_error_number e
