@@ -8,17 +8,8 @@ ghost use Rattle.blocks.specs.Block.{loaded};
 pub fn load16(s: &[u8], at: usize) -> [u8; 16]
     ensures { result ≡ loaded s.now at }
 {
-    let mut t = [0u8; 16];
-    if s.len() < at {
-        return t;
+    match s.get(at..).and_then(|rest| rest.first_chunk()) {
+        Some(t) => *t,
+        None => [0; 16],
     }
-    if s.len() - at < 16 {
-        return t;
-    }
-    let mut k = 0;
-    while k < 16 {
-        t[k] = s[at + k];
-        k += 1;
-    }
-    t
 }

@@ -8,15 +8,7 @@ ghost use Rattle.blocks.specs.Block.{stored};
 pub fn store16(t: [u8; 16], dst: &mut [u8], at: usize)
     ensures { dst.new ≡ stored t dst.old at }
 {
-    if dst.len() < at {
-        return;
-    }
-    if dst.len() - at < 16 {
-        return;
-    }
-    let mut k = 0;
-    while k < 16 {
-        dst[at + k] = t[k];
-        k += 1;
+    if at <= dst.len() && 16 <= dst.len() - at {
+        dst[at..at + 16].copy_from_slice(&t);
     }
 }

@@ -1,15 +1,16 @@
 -- Laws of hex and of lines. Assumes nothing.
+use borrow.Rule.Slice.PartMut.{put_mid}
 use Prim.Native.Nat.{ℕ, suc, ◌+◌, ◌-◌, ◌*◌, ◌/◌, ◌%◌, ◌<◌, ◌≤◌}
 use mathlib.Core.Bool.{Bool, true, false}
 use mathlib.Core.Path.{◌≡◌, refl, sym, ap, ◌∙◌}
-use mathlib.Core.List.{List, [], ◌∷◌, ◌++◌}
+use mathlib.Core.List.{List, [], ◌∷◌, ◌++◌, append_assoc}
 use mir.Val.{bool_byte}
 use native.Mathlib.Numerals.{add-one}
 use native.Mathlib.Omega.{arith}
 use borrow.Author.Tests.{le-leb, lt-leb, ne_eqb}
 use lib.Dec.{leb}
-use lib.ListN.{length, get_or, set, drop, length-append, drop_of_length-le}
-use lib.Seq.{sets, sets-eq, drop-cons}
+use lib.ListN.{length, get_or, set, drop, take, length-append, drop_of_length-le}
+use lib.Seq.{sets, sets-eq, drop-cons, drop-drop}
 use Rattle.choice.specs.Pick.{pick}
 use Rattle.room.proofs.Runs.{sets_append}
 use Rattle.std.specs.Prelude.{Err, Ok}
@@ -62,6 +63,14 @@ both g k = cc
 -- the six bytes that every line begins with
 abbrev pub front : ℕ → ℕ → ℕ → ℕ → List ℕ
 front a b m f = a ∷ b ∷ 32 ∷ m ∷ 32 ∷ f ∷ []
+
+-- a part that was lent and comes back as long as it was
+pub part_stored : (a k : ℕ) (d v : List ℕ) → a + k ≤ length d → length v ≡ k → put_mid a k d v ≡ sets d a v
+part_stored a k d v h e =
+    ap (λ (m : ℕ). take a d ++ (v ++ drop m (drop a d))) (sym e)
+    ∙ ap (λ (l : List ℕ). take a d ++ (v ++ l)) (drop-drop (length v) a d)
+    ∙ sym (append_assoc (take a d) v (drop (a + length v) d))
+    ∙ sym (sets-eq v d a (omega arith))
 
 pub line_stored : (d e : List ℕ) (at z : ℕ) (l t x : List ℕ) (a b m f : ℕ) → e ≡ sets d at (front a b m f) → a ∷ b ∷ 32 ∷ m ∷ 32 ∷ f ∷ t ≡ l → ◌≡◌ {A = ℕ × List ℕ} (z, x) (stored t (at + 6) e) → ◌≡◌ {A = ℕ × List ℕ} (z, x) (stored l at d)
 line_stored d e at z l t x a b m f q r w =

@@ -12,6 +12,13 @@ const ZERO: u8 = 0x30;
 
 const LETTER: u8 = 0x41;
 
+// Why a line is not written.
+#[derive(Clone, Copy, Debug, PartialEq, Eq)]
+pub enum LineError {
+    NumberOver9,
+    NoRoom,
+}
+
 // Puts the line of an event into dst from index at on. Where it is not written dst is left as it is.
 pub fn put_line(kind: u8, number: u8, ptt: bool, bytes: &[u8], dst: &mut [u8], at: usize) -> Result<usize, LineError>
     ensures { (result, dst.new) ≡ written kind number ptt bytes.now dst.old at }
@@ -33,7 +40,7 @@ pub fn put_line(kind: u8, number: u8, ptt: bool, bytes: &[u8], dst: &mut [u8], a
         BLANK,
         ZERO + (ptt as u8),
     ];
-    store::copy_in(&head, dst, at);
+    dst[at..at + 6].copy_from_slice(&head);
     Ok(write_tail(bytes, dst, at + 6))
 }
 
@@ -71,11 +78,8 @@ fn write_tail(src: &[u8], dst: &mut [u8], at: usize) -> usize
         return at + 1;
     }
     dst[at] = BLANK;
-    let mut i = 0;
     let mut j = at + 1;
-    while i < src.len() {
-        let b = src[i];
-        i += 1;
+    for b in src {
         dst[j] = hex_digit(b / 16);
         dst[j + 1] = hex_digit(b % 16);
         j += 2;

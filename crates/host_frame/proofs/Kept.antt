@@ -14,7 +14,6 @@ use Rattle.std.specs.Prelude.{Err, Ok, Option, ℕ, None, Some, Result}
 use Rattle.room.specs.declared.LentError.TheVariants.{WrongStore, OutOfBounds}
 use Rattle.kiss_layout.specs.declared.KissCommand.{KissCommand}
 use Rattle.kiss_layout.specs.declared.KissError.{KissError}
-use Rattle.kiss_layout.specs.declared.KissError.TheVariants.{MalformedKissFrame as NoCommand, UnsupportedKissCommand as NoSuch, MalformedKissFrame as NoPort}
 use Rattle.kiss_layout.specs.Read.{port_read, command_read}
 use Rattle.kiss_layout.specs.Build.{Building, set_tx_delay, set_full_duplex, frame_of, refusal, content_of, port_of, command_of}
 use Rattle.kiss_layout.specs.Promises.{Accepted}
@@ -93,8 +92,7 @@ module _ (x : Box) (frame : List ℕ) (s : Sound x) where
       (λ u. record { its_packets = s.its_packets; its_streams = q.its_store; its_host = and_both (and_both (and_fst _ _ sending_sound) q.its_state) channel_sound }))
 
   command_sound : (c : (Result KissCommand KissError)) (port : ℕ) → Leaves (by_command c port x.host frame x.packets x.streams)
-  command_sound (Err NoCommand) port = s
-  command_sound (Err NoSuch) port = s
+  command_sound (Err e) port = s
   command_sound (Ok DataFrame) port = data_sound port
   command_sound (Ok TxDelay) port = delay_sound (setting_in frame)
   command_sound (Ok P) port = s
@@ -102,7 +100,7 @@ module _ (x : Box) (frame : List ℕ) (s : Sound x) where
 
   port_sound : (p : (Result ℕ KissError)) → Leaves (by_port p x.host frame x.packets x.streams)
   unfolding obeyed_on
-  port_sound (Err NoPort) = s
+  port_sound (Err e) = s
   port_sound (Ok port) = pick_all Leaves (ltb 2 port) _ _ (λ t. s) (λ t. command_sound (command_read frame) port)
 
   obeyed_sound : Leaves (obeyed x.host frame x.packets x.streams)

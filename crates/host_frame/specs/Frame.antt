@@ -4,7 +4,6 @@ use Rattle.choice.specs.Pick.{pick}
 use Rattle.kiss_layout.specs.declared.KissCommand.TheVariants.{DataFrame, TxDelay, P, FullDuplex}
 use Rattle.kiss_layout.specs.declared.KissCommand.{KissCommand}
 use Rattle.kiss_layout.specs.declared.KissError.{KissError}
-use Rattle.kiss_layout.specs.declared.KissError.TheVariants.{MalformedKissFrame as NoCommand, UnsupportedKissCommand as NoSuch, MalformedKissFrame as NoPort}
 use Rattle.room.specs.declared.LentError.{LentError}
 use Rattle.room.specs.declared.LentError.TheVariants.{OutOfBounds, WrongStore}
 use Rattle.kiss_layout.specs.Read.{port_read, command_read}
@@ -18,8 +17,7 @@ use Rattle.host_frame.specs.declared.FrameTaken.{FrameTaken}
 
 -- other settings are ignored
 abbrev pub by_command : Result KissCommand KissError → ℕ → Host → List ℕ → List ℕ → List ℕ → Host × List ℕ × List ℕ
-by_command (Err NoCommand) port h frame packets streams = (h, packets, streams)
-by_command (Err NoSuch) port h frame packets streams = (h, packets, streams)
+by_command (Err e) port h frame packets streams = (h, packets, streams)
 by_command (Ok DataFrame) port h frame packets streams = data_taken port h frame packets streams
 by_command (Ok TxDelay) port h frame packets streams = (delay_set (setting_in frame) h, packets, streams)
 by_command (Ok P) port h frame packets streams = (h, packets, streams)
@@ -30,7 +28,7 @@ unfoldable pub obeyed_on : ℕ → Host → List ℕ → List ℕ → List ℕ �
 obeyed_on port h frame packets streams = pick (ltb 2 port) (h, packets, streams) (by_command (command_read frame) port h frame packets streams)
 
 abbrev pub by_port : Result ℕ KissError → Host → List ℕ → List ℕ → List ℕ → Host × List ℕ × List ℕ
-by_port (Err NoPort) h frame packets streams = (h, packets, streams)
+by_port (Err e) h frame packets streams = (h, packets, streams)
 by_port (Ok port) h frame packets streams = obeyed_on port h frame packets streams
 
 unfoldable pub obeyed : Host → List ℕ → List ℕ → List ℕ → Host × List ℕ × List ℕ
@@ -51,6 +49,6 @@ frame_taken h frame packets streams =
 
 -- document 01's numbers for the answers
 abbrev pub frame_number : Result (Unit {0}) LentError → ℕ
-frame_number (Ok tt) = 0
+frame_number (Ok done) = 0
 frame_number (Err WrongStore) = 7
 frame_number (Err OutOfBounds) = 8

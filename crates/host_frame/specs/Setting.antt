@@ -2,7 +2,6 @@
 use Rattle.std.specs.Prelude.{ℕ, not, List, eqb, get_or, replicate, Result, Option, Err, None, Ok, Some}
 use Rattle.choice.specs.Pick.{pick}
 use Rattle.kiss_layout.specs.declared.KissError.{KissError}
-use Rattle.kiss_layout.specs.declared.KissError.TheVariants.{MalformedKissFrame as NoPayload}
 use Rattle.kiss_layout.specs.Read.{decoded}
 use Rattle.channel.specs.declared.Channel.{Channel}
 use Rattle.channel.specs.Access.{duplex_set}
@@ -17,7 +16,7 @@ with_channel h c = record { sending = h.sending; channel = c }
 -- ---- settings: the first payload byte; an empty one is ignored
 
 unfoldable pub setting_from : Result ℕ KissError → List ℕ → Option ℕ
-setting_from (Err NoPayload) room = None
+setting_from (Err e) room = None
 setting_from (Ok n) room = pick (eqb n 0) None (Some (get_or room 0 0))
 
 unfoldable pub setting_in : List ℕ → Option ℕ

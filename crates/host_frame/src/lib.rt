@@ -9,7 +9,7 @@ ghost use Rattle.host_frame.specs.Setting.{setting_in, delay_set, duplex_of};
 use room::LentError;
 use host_record::{Host, stores_fit};
 use kiss_header::{command, port};
-use kiss_layout::{KissCommand, KissError};
+use kiss_layout::KissCommand;
 use kiss_read::decode_payload;
 use packets::PacketQueue;
 use streams::StreamQueue;
@@ -25,22 +25,30 @@ pub fn take_frame(host: Host, frame: &[u8], packets: &mut [u8], streams: &mut [u
     ensures { (result, packets.new, streams.new) ≡ frame_taken host frame.now packets.old streams.old }
 {
     if !stores_fit(packets.len(), streams.len()) {
-        return answered(host, Err(LentError::WrongStore));
+        return FrameTaken {
+            answer: Err(LentError::WrongStore),
+            host,
+        };
     }
     if !host.is_sound() {
-        return answered(host, Err(LentError::OutOfBounds));
+        return FrameTaken {
+            answer: Err(LentError::OutOfBounds),
+            host,
+        };
     }
-    let after = obey(host, frame, packets, streams);
-    answered(after, Ok(()))
+    FrameTaken {
+        answer: Ok(()),
+        host: obey(host, frame, packets, streams),
+    }
 }
 
 fn obey(host: Host, frame: &[u8], packets: &mut [u8], streams: &mut [u8]) -> Host
     ensures { (result, packets.new, streams.new) ≡ obeyed host frame.now packets.old streams.old }
 {
-    match port(frame) {
-        Err(KissError::MalformedKissFrame) => host,
-        Ok(number) => obey_on(host, number, frame, packets, streams),
-    }
+    let Ok(number) = port(frame) else {
+        return host;
+    };
+    obey_on(host, number, frame, packets, streams)
 }
 
 fn obey_on(host: Host, number: u8, frame: &[u8], packets: &mut [u8], streams: &mut [u8]) -> Host
@@ -50,14 +58,10 @@ fn obey_on(host: Host, number: u8, frame: &[u8], packets: &mut [u8], streams: &m
         return host;
     }
     match command(frame) {
-        Err(KissError::MalformedKissFrame) => host,
-        Err(KissError::UnsupportedKissCommand) => host,
-        Ok(kind) => match kind {
-            KissCommand::DataFrame => take_data(host, number, frame, packets, streams),
-            KissCommand::TxDelay => set_tx_delay(host, frame),
-            KissCommand::P => host,
-            KissCommand::FullDuplex => set_full_duplex(host, frame),
-        },
+        Ok(KissCommand::DataFrame) => take_data(host, number, frame, packets, streams),
+        Ok(KissCommand::TxDelay) => set_tx_delay(host, frame),
+        Ok(KissCommand::FullDuplex) => set_full_duplex(host, frame),
+        Ok(KissCommand::P) | Err(_) => host,
     }
 }
 
@@ -65,92 +69,50 @@ fn take_data(host: Host, number: u8, frame: &[u8], packets: &mut [u8], streams: 
     ensures { (result, packets.new, streams.new) ≡ data_taken number host frame.now packets.old streams.old }
 {
     let sending = host.sending;
-    let waiting = sending.packets;
-    if number == 0 {
-        let pushed = packet_basic::push_basic(waiting, frame, packets);
-        let after = pushed.queue;
-        return with_packets(host, after);
+    match number {
+        0 => with_packets(host, packet_basic::push_basic(sending.packets, frame, packets).queue),
+        1 => with_packets(host, packet_full::push_full(sending.packets, frame, packets).queue),
+        _ => with_streams(host, stream_push::push(sending.streams, frame, streams).queue),
     }
-    if number == 1 {
-        let pushed = packet_full::push_full(waiting, frame, packets);
-        let after = pushed.queue;
-        return with_packets(host, after);
-    }
-    let queue = sending.streams;
-    let pushed = stream_push::push(queue, frame, streams);
-    let after = pushed.queue;
-    with_streams(host, after)
 }
 
 fn with_packets(mut host: Host, queue: PacketQueue) -> Host
     ensures { result ≡ with_packets host queue }
 {
-    let mut sending = host.sending;
-    sending.packets = queue;
-    host.sending = sending;
+    host.sending.packets = queue;
     host
 }
 
 fn with_streams(mut host: Host, queue: StreamQueue) -> Host
     ensures { result ≡ with_streams host queue }
 {
-    let mut sending = host.sending;
-    sending.streams = queue;
-    host.sending = sending;
+    host.sending.streams = queue;
     host
 }
 
 fn set_tx_delay(mut host: Host, frame: &[u8]) -> Host
     ensures { result ≡ delay_set (setting_in frame.now) host }
 {
-    match read_setting(frame) {
-        None => host,
-        Some(byte) => {
-            let mut sending = host.sending;
-            sending.tx_delay = byte;
-            host.sending = sending;
-            host
-        }
+    if let Some(byte) = read_setting(frame) {
+        host.sending.tx_delay = byte;
     }
+    host
 }
 
 // Any byte but 0 is on.
 fn set_full_duplex(mut host: Host, frame: &[u8]) -> Host
     ensures { result ≡ duplex_of (setting_in frame.now) host }
 {
-    match read_setting(frame) {
-        None => host,
-        Some(byte) => {
-            let channel = host.channel;
-            let set = channel.set_full_duplex(byte != 0);
-            let after = set.channel;
-            host.channel = after;
-            host
-        }
+    if let Some(byte) = read_setting(frame) {
+        host.channel = host.channel.set_full_duplex(byte != 0).channel;
     }
+    host
 }
 
 fn read_setting(frame: &[u8]) -> Option<u8>
     ensures { result ≡ setting_in frame.now }
 {
     let mut room = [0u8; 1];
-    match decode_payload(frame, &mut room) {
-        Err(KissError::MalformedKissFrame) => None,
-        Ok(n) => {
-            if n == 0 {
-                None
-            } else {
-                Some(room[0])
-            }
-        }
-    }
-}
-
-fn answered(host: Host, answer: Result<(), LentError>) -> FrameTaken
-    ensures { result ≡ record { answer = answer; host = host } }
-{
-    FrameTaken {
-        answer: answer,
-        host: host,
-    }
+    let len = decode_payload(frame, &mut room).ok()?;
+    (len > 0).then_some(room[0])
 }

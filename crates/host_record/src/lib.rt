@@ -1,15 +1,13 @@
 // What the host can change, and the lengths of the stores of what waits to be sent.
-#![tactic(auto)]
+#![tactic(auto, unfolding(crate::specs::Host::sound_host, crate::specs::Host::stores_fit, choice::specs::Pick::and))]
 
 ghost use Rattle.std.specs.Prelude.{◌≡◌};
 ghost use Rattle.host_record.specs.Host.{sound_host, stores_fit};
 
 use channel::Channel;
+pub use packets::STORE_LEN as PACKET_STORE_LEN;
 use sending::Sending;
-
-pub const PACKET_STORE_LEN: usize = 3420;
-
-pub const STREAM_STORE_LEN: usize = 230;
+pub use streams::STREAM_STORE_LEN;
 
 // What the host can change: what waits to be sent, and whether the channel is duplex.
 #[derive(Clone, Copy)]
@@ -22,12 +20,7 @@ impl Host {
     pub fn is_sound(self) -> bool
         ensures { result ≡ sound_host self }
     {
-        let sending = self.sending;
-        if !sending.is_sound() {
-            return false;
-        }
-        let channel = self.channel;
-        channel.is_sound()
+        self.sending.is_sound() && self.channel.is_sound()
     }
 }
 
@@ -35,8 +28,5 @@ impl Host {
 pub fn stores_fit(packets: usize, streams: usize) -> bool
     ensures { result ≡ stores_fit packets streams }
 {
-    if packets != PACKET_STORE_LEN {
-        return false;
-    }
-    streams == STREAM_STORE_LEN
+    packets == PACKET_STORE_LEN && streams == STREAM_STORE_LEN
 }

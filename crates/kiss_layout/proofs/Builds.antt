@@ -3,7 +3,7 @@ use mathlib.Core.Path.{◌≡◌, ap}
 use mathlib.Core.Option.{Option, none, some}
 use mathlib.Core.List.{List}
 use Prim.Native.Nat.{ℕ}
-use Rattle.std.specs.Prelude.{Result, ℕ, Err}
+use Rattle.std.specs.Prelude.{ℕ, Err}
 use Rattle.kiss_layout.specs.declared.BuildError.{BuildError}
 use Rattle.kiss_layout.specs.Frame.{put_frame}
 use Rattle.kiss_layout.specs.Build.{Building, refusal, frame_of, unless, built}

@@ -1,6 +1,6 @@
 -- What is promised of escaping, of the builders and of what is read from their frames, from the KISS paper and document 01. Those of escaping are proved in
 -- proofs/Escaping.antt, the others in proofs/Kept.antt. Assumes nothing.
-use Rattle.std.specs.Prelude.{ℕ, ◌*◌, ◌≤◌, ◌<◌, ◌≢◌, ◌≡◌, List, length, drop, get_or, Ok, Err}
+use Rattle.std.specs.Prelude.{ℕ, ◌*◌, ◌≤◌, ◌<◌, ◌≢◌, ◌≡◌, List, length, drop, get_or, Ok}
 use Rattle.std.proofs.Math.Option.{none, some}
 use Rattle.room.specs.Room.{over}
 use Rattle.crc.specs.Crc.{crc_of}

@@ -47,14 +47,14 @@ impl TryFrom<u8> for KissCommand {
 
     ghost try_from_gives = { λ value answer. answer ≡ command_for value };
 
+    #[tactic(auto, using(crate::proofs::Commands::unsupported), unfolding(crate::specs::Read::command_for, choice::specs::Pick::pick))]
     fn try_from(value: u8) -> Result<Self, KissError> {
         match value {
             0 => Ok(KissCommand::DataFrame),
             1 => Ok(KissCommand::TxDelay),
             2 => Ok(KissCommand::P),
             5 => Ok(KissCommand::FullDuplex),
-            3..=4 => Err(KissError::UnsupportedKissCommand),
-            6..=255 => Err(KissError::UnsupportedKissCommand),
+            3..=4 | 6..=255 => Err(KissError::UnsupportedKissCommand),
         }
     }
 }

@@ -1,22 +1,25 @@
--- Bytes of a frame after code has written two of them. Assumes nothing.
-use mathlib.Core.Path.{◌≡◌, ap, ◌∙◌}
-use mathlib.Core.List.{List, [], ◌∷◌, ◌++◌, append-nil}
-use Prim.Native.Nat.{ℕ, ◌+◌, ◌≤◌}
+-- Bytes of a frame after code has written some of them. Assumes nothing.
+use mathlib.Core.Path.{◌≡◌, sym, ap, ◌∙◌}
+use mathlib.Core.List.{List, [], ◌∷◌, ◌++◌, append_assoc}
+use Prim.Native.Nat.{ℕ, ◌+◌, ◌≤◌, ◌<◌, ◌/◌, ◌%◌}
 use native.Mathlib.Omega.{arith}
-use lib.ListN.{length, take, drop, length-append, drop_of_length-le}
-use lib.Seq.{sets, sets-eq, take-append-add, length-take-le}
+use lib.ListN.{length, take, drop}
+use lib.Seq.{take-append-add, drop-drop, length-take-le}
+use Rattle.crc.specs.Crc.{two_bytes}
+use Rattle.std.proofs.lemmas.Grind.{common_steps}
 
--- a run of stores that reaches the end
-pub stored_last : (f e : List ℕ) (n : ℕ) → n + length e ≡ length f → sets f n e ≡ take n f ++ e
-stored_last f e n h =
-    let k : length f ≤ n + length e = omega arith in
-    sets-eq e f n (omega arith) ∙ ap (λ (r : List ℕ). take n f ++ e ++ r) (drop_of_length-le f k) ∙ append-nil (take n f ++ e)
+-- a number's two bytes, high byte first
+pub high_first : (n : ℕ) → n < 65536 → (n / 256 % 256) ∷ (n % 256) ∷ [] ≡ two_bytes n
+high_first n h = grind (arith, common_steps)
+
+-- bytes put over the last k
+pub put_last : (f e : List ℕ) (n k : ℕ) → length f ≤ n + k → take n f ++ (e ++ drop k (drop n f)) ≡ take n f ++ e
+put_last f e n k h = grind (arith, common_steps)
 
 take_past : (p q : List ℕ) (m n : ℕ) → length p ≡ n → take (n + m) (p ++ q) ≡ p ++ take m q
 take_past p q m n e = rw (← e) (take-append-add p q m)
 
--- two stores in the middle, and the m bytes after them
-pub stored_mid : (f : List ℕ) (a b n m : ℕ) → n + 2 ≤ length f → take (n + 2 + m) (sets f n (a ∷ b ∷ [])) ≡ take n f ++ (a ∷ b ∷ []) ++ take m (drop (n + 2) f)
-stored_mid f a b n m h =
-    let l : length (take n f ++ (a ∷ b ∷ [])) ≡ n + 2 = length-append (take n f) (a ∷ b ∷ []) ∙ ap (λ (x : ℕ). x + 2) (length-take-le n f (omega arith)) in
-    rw (sets-eq (a ∷ b ∷ []) f n h) (take_past (take n f ++ (a ∷ b ∷ [])) (drop (n + 2) f) m (n + 2) l)
+-- bytes put over k in the middle, and the m bytes after them
+pub put_mid : (f e : List ℕ) (n k m : ℕ) → n ≤ length f → length e ≡ k → take (n + (k + m)) (take n f ++ (e ++ drop k (drop n f))) ≡ take n f ++ e ++ take m (drop (n + k) f)
+put_mid f e n k m h l =
+    take_past (take n f) _ (k + m) n (length-take-le n f h) ∙ ap (λ r. take n f ++ r) (take_past e _ m k l ∙ ap (λ r. e ++ take m r) (drop-drop k n f)) ∙ sym (append_assoc (take n f) e _)

@@ -1,5 +1,5 @@
 // The fields of a link setup frame that only a host asks for, as m17core's protocol.rs reads them. The mode is read in `lsf_frame`, the meta field in `lsf_bytes`.
-#![tactic(auto)]
+#![tactic(auto, unfolding(lsf_layout::specs::Lsf::field_of, lsf_layout::specs::Bits::bits_at))]
 
 ghost use Rattle.std.specs.Prelude.{◌≡◌};
 ghost use Rattle.lsf_layout.specs.Bits.{data_type_bits, encryption_bits, channel_bits};
@@ -13,32 +13,17 @@ use protocol::{DataType, EncryptionType, LsfFrame};
 pub fn data_type(lsf: LsfFrame) -> DataType
     ensures { result ≡ data_type_of (field_of data_type_bits lsf.0) }
 {
-    let bytes = lsf.0;
-    let bits = lsf_type(bytes) / 2 % 4;
-    match bits {
-        0 => return DataType::Reserved,
-        1 => return DataType::Data,
-        2 => return DataType::Voice,
-        _ => return DataType::VoiceAndData,
-    }
+    DataType::try_from(lsf_type(lsf.0) / 2 % 4).unwrap()
 }
 
 pub fn encryption_type(lsf: LsfFrame) -> EncryptionType
     ensures { result ≡ encryption_of (field_of encryption_bits lsf.0) }
 {
-    let bytes = lsf.0;
-    let bits = lsf_type(bytes) / 8 % 4;
-    match bits {
-        0 => return EncryptionType::None,
-        1 => return EncryptionType::Scrambler,
-        2 => return EncryptionType::Aes,
-        _ => return EncryptionType::Other,
-    }
+    EncryptionType::try_from(lsf_type(lsf.0) / 8 % 4).unwrap()
 }
 
 pub fn channel_access_number(lsf: LsfFrame) -> u8
     ensures { result ≡ field_of channel_bits lsf.0 }
 {
-    let bytes = lsf.0;
-    (lsf_type(bytes) / 128 % 16) as u8
+    (lsf_type(lsf.0) / 128 % 16) as u8
 }

@@ -26,18 +26,12 @@ pub fn packet_basic() -> LsfFrame
 pub fn check_crc(lsf: LsfFrame) -> u16
     ensures { result ≡ crc_of lsf.0 }
 {
-    let bytes = lsf.0;
-    crc::m17_crc(&bytes)
+    crc::m17_crc(&lsf.0)
 }
 
 // Byte 13 is the low byte of the type, and the mode its lowest bit.
 pub fn mode(lsf: LsfFrame) -> Mode
     ensures { result ≡ mode_of (field_of mode_bits lsf.0) }
 {
-    let bytes = lsf.0;
-    let bit = bytes[13] % 2;
-    match bit {
-        0 => Mode::Packet,
-        _ => Mode::Stream,
-    }
+    Mode::try_from(u16::from(lsf.0[13] % 2)).unwrap()
 }

@@ -5,7 +5,6 @@ use mathlib.Core.List.{List}
 use Rattle.choice.specs.Pick.{pick, and}
 use Rattle.choice.specs.Cases.{all_pass}
 use Rattle.packets.specs.declared.PacketQueue.{PacketQueue}
-use Rattle.packets.specs.declared.ReadAnswer.{ReadAnswer}
 use Rattle.packets.specs.Frames.{zeros, padded, chunk, chunks, data_frames}
 use Rattle.packets.specs.Queue.{sound_place, sound_queue, made_basic, made_full, pushed_basic, pushed_full, read_next, frames_in}
 use Rattle.packets.specs.Promises.{Sound}
@@ -41,10 +40,10 @@ pub read_takes : ReadTakes
 read_takes q store h = (taken q store h).kept
 
 pub end_is_used_up : EndIsUsedUp
-end_is_used_up q store h e = (taken q store h).used_up (ap (λ (a : ReadAnswer). frames_in a (read_next q store)) e)
+end_is_used_up q store h e = (taken q store h).used_up (ap frames_in e)
 
 pub nothing_is_used_up : NothingIsUsedUp
-nothing_is_used_up q store h e = (taken q store h).used_up (ap (λ (a : ReadAnswer). frames_in a (read_next q store)) e)
+nothing_is_used_up q store h e = (taken q store h).used_up (ap frames_in e)
 
 pub something_is_given : SomethingIsGiven
 something_is_given q store h some none = some ((taken q store h).used_up none)

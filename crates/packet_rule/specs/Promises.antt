@@ -1,10 +1,10 @@
 -- What is promised of the packet queue's calls together, from document 01's queue rule. Each is proved in proofs/Kept.antt. Assumes nothing.
-use Rattle.std.specs.Prelude.{ℕ, true, false, ◌≢◌, ◌≡◌, List, [], ◌∷◌, ◌++◌, length, replicate}
+use Rattle.std.specs.Prelude.{ℕ, true, false, ◌≢◌, ◌≡◌, List, [], ◌∷◌, ◌++◌, length, replicate, Ok, Some, None}
 use Rattle.protocol.specs.declared.PacketFrameCounter.TheVariants.{Frame, FinalFrame}
+use Rattle.protocol.specs.declared.ModulatorFrame.TheVariants.{EndOfTransmission}
 use Rattle.packets.specs.declared.PacketQueue.{PacketQueue}
 use Rattle.packets.specs.declared.Pushed.{Pushed}
 use Rattle.packets.specs.declared.PacketRead.{PacketRead}
-use Rattle.packets.specs.declared.ReadAnswer.TheVariants.{Nothing, End}
 use Rattle.packets.specs.Frames.{AirFrame, setup, piece, joined}
 use Rattle.packets.specs.Queue.{Made, no_packet, new_queue, made_basic, made_full, is_empty, pushed_basic, pushed_full, read_next, frames_in}
 use Rattle.packets.specs.Promises.{Sound}
@@ -44,7 +44,7 @@ PushAdds =
 
 -- the frames of packets that a read gives: one or none
 abbrev pub given : PacketRead → List AirFrame
-given r = frames_in r.answer r
+given r = frames_in r.answer
 
 -- a read takes what it gives from the front of what is left, and nothing else
 abbrev pub ReadTakes : Type 0
@@ -52,11 +52,11 @@ ReadTakes = (q : PacketQueue) (store : List ℕ) → Sound q store → left_of q
 
 -- an end of transmission comes only when nothing is left
 abbrev pub EndIsUsedUp : Type 0
-EndIsUsedUp = (q : PacketQueue) (store : List ℕ) → Sound q store → (read_next q store).answer ≡ End → left_of q store ≡ []
+EndIsUsedUp = (q : PacketQueue) (store : List ℕ) → Sound q store → (read_next q store).answer ≡ Ok (Some EndOfTransmission) → left_of q store ≡ []
 
 -- so does the answer that there is nothing
 abbrev pub NothingIsUsedUp : Type 0
-NothingIsUsedUp = (q : PacketQueue) (store : List ℕ) → Sound q store → (read_next q store).answer ≡ Nothing → left_of q store ≡ []
+NothingIsUsedUp = (q : PacketQueue) (store : List ℕ) → Sound q store → (read_next q store).answer ≡ Ok None → left_of q store ≡ []
 
 -- while something is left a read gives a frame, and so no end
 abbrev pub SomethingIsGiven : Type 0
@@ -75,7 +75,7 @@ FrameKeepsItsPlace = (q : PacketQueue) (store : List ℕ) → given (read_next q
 
 -- and while a place is held a read gives a frame or the end, and never nothing
 abbrev pub HeldIsAnswered : Type 0
-HeldIsAnswered = (q : PacketQueue) (store : List ℕ) → is_empty q ≡ false → (read_next q store).answer ≢ Nothing
+HeldIsAnswered = (q : PacketQueue) (store : List ℕ) → is_empty q ≡ false → (read_next q store).answer ≢ Ok None
 
 -- ---- an example
 

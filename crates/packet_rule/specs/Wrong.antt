@@ -1,10 +1,10 @@
 -- The queue rule as a demand on any read of the packet queue, and five wrong reads that break it: those of document 01's "What the contracts have to say" and of its list
 -- of what is easy to get wrong. That ours keeps it and that each of the five breaks it is proved in proofs/Wrong.antt. Assumes nothing.
-use Rattle.std.specs.Prelude.{ℕ, false, ◌≢◌, ◌≡◌, List, [], ◌++◌, eqb}
+use Rattle.std.specs.Prelude.{ℕ, false, ◌≢◌, ◌≡◌, List, [], ◌++◌, eqb, Ok, Some, None}
 use Rattle.choice.specs.Pick.{pick}
+use Rattle.protocol.specs.declared.ModulatorFrame.TheVariants.{EndOfTransmission}
 use Rattle.packets.specs.declared.PacketQueue.{PacketQueue}
 use Rattle.packets.specs.declared.PacketRead.{PacketRead}
-use Rattle.packets.specs.declared.ReadAnswer.TheVariants.{Nothing, End}
 use Rattle.packets.specs.Queue.{is_empty, here, advanced, not_read, read_next}
 use Rattle.packets.specs.Promises.{Sound}
 use Rattle.packet_rule.specs.Left.{left_of}
@@ -15,7 +15,7 @@ pub record Rule (read : PacketQueue → List ℕ → PacketRead) : Type 0 where
   -- what it gives stands first in what was left, and the rest is left
   pub takes : (q : PacketQueue) (store : List ℕ) → Sound q store → left_of q store ≡ given (read q store) ++ left_of (read q store).queue store
   -- an end comes only when nothing is left
-  pub ends : (q : PacketQueue) (store : List ℕ) → Sound q store → (read q store).answer ≡ End → left_of q store ≡ []
+  pub ends : (q : PacketQueue) (store : List ℕ) → Sound q store → (read q store).answer ≡ Ok (Some EndOfTransmission) → left_of q store ≡ []
   -- while something is left a frame is given
   pub gives : (q : PacketQueue) (store : List ℕ) → Sound q store → left_of q store ≢ [] → given (read q store) ≢ []
   -- a place is held until the read behind its last frame, so that an end is given there
@@ -30,11 +30,11 @@ RuleIsKept = Rule read_next
 -- ---- wrong reads
 
 abbrev pub with_queue : PacketRead → PacketQueue → PacketRead
-with_queue r q = record { answer = r.answer; lsf = r.lsf; frame = r.frame; queue = q }
+with_queue r q = record { answer = r.answer; queue = q }
 
 -- only keys up and ends
 abbrev pub only_ends : PacketQueue → List ℕ → PacketRead
-only_ends q store = not_read End q
+only_ends q store = not_read (Ok (Some EndOfTransmission)) q
 
 -- repeats what it gave
 abbrev pub repeats : PacketQueue → List ℕ → PacketRead
@@ -54,7 +54,7 @@ clears_when_empty q store = let r = read_next q store in with_queue r (stays_ful
 
 -- sends four full places as nothing
 abbrev pub four_are_none : PacketQueue → List ℕ → PacketRead
-four_are_none q store = pick (eqb q.next q.curr) (not_read Nothing q) (read_next q store)
+four_are_none q store = pick (eqb q.next q.curr) (not_read (Ok None) q) (read_next q store)
 
 -- each of them breaks the rule
 abbrev pub WrongReadsBreakIt : Type 0

@@ -2,7 +2,7 @@
 use Prim.Native.Nat.{ℕ, zero, suc, ◌+◌, ◌*◌, ◌≤◌}
 use mathlib.Core.Bool.{Bool, true, false}
 use mathlib.Core.Logic.{◌≢◌}
-use mathlib.Core.Path.{◌≡◌, refl, ap, ◌∙◌}
+use mathlib.Core.Path.{◌≡◌, refl, sym, ap, ◌∙◌}
 use mathlib.Core.List.{List, ◌∷◌, ◌++◌, append-nil}
 use native.Mathlib.Omega.{arith}
 use borrow.Author.Tests.{leb-true}
@@ -16,7 +16,7 @@ use Rattle.room.proofs.Places.{placed-length}
 use Rattle.crc.specs.Crc.{crc_of, two_bytes, sealed}
 use Rattle.protocol.specs.Lsf.{part}
 use Rattle.protocol.specs.Basic.{basic_lsf}
-use Rattle.std.specs.Prelude.{Ok, Err, Result, ℕ, None}
+use Rattle.std.specs.Prelude.{Ok, Err, Result, ℕ, Option, Some, None}
 use Rattle.packets.specs.declared.Push.TheVariants.{Ignored}
 use Rattle.kiss_layout.specs.declared.PushError.TheVariants.{WrongStore, OutOfBounds}
 use Rattle.kiss_layout.specs.declared.KissError.{KissError}
@@ -24,11 +24,13 @@ use Rattle.kiss_layout.specs.Read.{decoded}
 use Rattle.packets.specs.declared.PacketQueue.{PacketQueue}
 use Rattle.packets.specs.declared.Pushed.{Pushed}
 use Rattle.packets.specs.declared.PacketRead.{PacketRead}
+use Rattle.room.specs.declared.LentError.{LentError}
+use Rattle.protocol.specs.declared.ModulatorFrame.{ModulatorFrame}
 use Rattle.room.specs.declared.LentError.TheVariants.{WrongStore as NoStore, OutOfBounds as NoState}
 use Rattle.packets.specs.Frames.{frames_of, zeros, data_frames, carried_lsf, carried_body}
 use Rattle.packets.specs.Queue.{ROOM, DATA, STORE, RAW, sound_place, sound_queue, is_empty, Made, malformed, unfit, overlong, fills, basic_room, basic, full, made_basic, made_full, stored, not_pushed, obeyed, pushing, pushed_basic, pushed_full, advanced, lsf_read, data_read, turn, walk, not_read, read_next, read_number}
 use Rattle.packets.specs.Inside.{count_of}
-use Rattle.packets.specs.Promises.{KeptBy, RefusedKeepsAll, NewIsSound, Sound, SoundStaysSound, BasicIsSealed, Rejoined}
+use Rattle.packets.specs.Promises.{KeptBy, RefusedKeepsAll, of_packets, GivesPackets, NewIsSound, Sound, SoundStaysSound, BasicIsSealed, Rejoined}
 use Rattle.packets.proofs.Bounds.{at_here, sound_advanced, sound_with, sound_packet}
 use Rattle.packets.proofs.Decoding.{in_room}
 use Rattle.packets.proofs.Rooms.{length-zeros, basic_lsf_length}
@@ -74,6 +76,27 @@ read_keeps q s = by (eqb (length s) STORE) (sound_queue q) (is_empty q)
 pub refused_keeps_all : RefusedKeepsAll
 unfolding pushed_basic pushed_full
 refused_keeps_all q s = (λ f. (push_keeps q s (made_basic f), push_keeps q s (made_full f)), read_keeps q s)
+
+-- the frame in an answer, where there is one, is of packets
+abbrev packets_only : Result (Option ModulatorFrame) LentError → Bool
+packets_only (Ok None) = true
+packets_only (Ok (Some frame)) = of_packets frame
+packets_only (Err e) = true
+
+abbrev PacketsOnly : PacketRead → Type 0
+PacketsOnly r = packets_only r.answer ≡ true
+
+walk_gives : (n : ℕ) (q : PacketQueue) (s : List ℕ) → PacketsOnly (walk n q s)
+unfolding walk turn lsf_read data_read
+walk_gives zero q s = refl
+walk_gives (suc n) q s =
+    pick_all PacketsOnly _ _ _ (λ _. refl) (λ _. pick_all PacketsOnly _ _ _ (λ _. refl) (λ _. pick_all PacketsOnly _ _ _ (λ _. walk_gives n (advanced q) s) (λ _. refl)))
+
+pub gives_packets : GivesPackets
+unfolding read_next
+gives_packets q s frame e =
+    sym (ap packets_only e)
+    ∙ pick_all PacketsOnly _ _ _ (λ _. pick_all PacketsOnly _ _ _ (λ _. pick_all PacketsOnly _ _ _ (λ _. refl) (λ _. walk_gives 4 q s)) (λ _. refl)) (λ _. refl)
 
 -- ---- bounds
 

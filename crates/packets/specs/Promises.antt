@@ -1,7 +1,9 @@
 -- What is promised of the packet queue over its calls, from document 01. Each is proved in proofs/Kept.antt. Assumes nothing.
-use Rattle.std.specs.Prelude.{ℕ, ◌+◌, ◌≤◌, true, ◌≢◌, ◌≡◌, List, ◌∷◌, length, take}
+use Rattle.std.specs.Prelude.{ℕ, ◌+◌, ◌≤◌, Bool, true, false, ◌≢◌, ◌≡◌, List, ◌∷◌, length, take, Ok, Some}
 use Rattle.crc.specs.Crc.{sealed}
 use Rattle.protocol.specs.Basic.{basic_lsf}
+use Rattle.protocol.specs.declared.ModulatorFrame.{ModulatorFrame}
+use Rattle.protocol.specs.declared.ModulatorFrame.TheVariants.{Preamble, Lsf, Stream, Packet as PacketPiece, EndOfTransmission}
 use Rattle.packets.specs.declared.PacketQueue.{PacketQueue}
 use Rattle.packets.specs.declared.Pushed.{Pushed}
 use Rattle.packets.specs.Frames.{Packet, frames_of, rejoin}
@@ -16,6 +18,18 @@ abbrev pub RefusedKeepsAll : Type 0
 RefusedKeepsAll =
     (q : PacketQueue) (store : List ℕ) → ((frame : List ℕ) → KeptBy q store (pushed_basic q frame store) × KeptBy q store (pushed_full q frame store))
     × (read_number (read_next q store).answer ≢ 0 → (read_next q store).queue ≡ q)
+
+-- what a packet transmission consists of: packets' LSFs and frames, and its end
+abbrev pub of_packets : ModulatorFrame → Bool
+of_packets (Preamble delay) = false
+of_packets (Lsf lsf) = true
+of_packets (Stream frame) = false
+of_packets (PacketPiece frame) = true
+of_packets EndOfTransmission = true
+
+-- a read gives no other frame
+abbrev pub GivesPackets : Type 0
+GivesPackets = (q : PacketQueue) (store : List ℕ) (frame : ModulatorFrame) → (read_next q store).answer ≡ Ok (Some frame) → of_packets frame ≡ true
 
 -- a new queue is within its bounds
 abbrev pub NewIsSound : Type 0

@@ -29,7 +29,7 @@ use Rattle.protocol.specs.declared.ModulatorFrame.TheVariants.{Preamble, Lsf, St
 use Rattle.streams.specs.declared.StreamRead.{StreamRead}
 use Rattle.streams.specs.Layout.{FRAME, bytes_of, frame_of}
 use Rattle.streams.specs.Queue.{LSF, IGNORED, DATA, sound_queue, empty_queue, frame_at, queued, unqueued, data_pushed, payload_pushed, decoded_of, pushed, lsf_read, frame_read, push_number, read_number}
-use Rattle.streams.specs.Promises.{Box, push_answer, after_push, next_of, after_read, RefusedKeepsAll, IgnoredKeepsAll, Sound, NewIsSound, SoundStaysSound, frame_in, StoredIsRead, count, frames_from, waiting, added_by, given_by, Run, over, push, read, FirstInFirstOut, lsf_waiting, LsfWaitsUntilRead, FullStopsDataNotLsf, BuiltIsTaken}
+use Rattle.streams.specs.Promises.{Box, push_answer, after_push, next_of, after_read, RefusedKeepsAll, IgnoredKeepsAll, of_streams, GivesStreams, Sound, NewIsSound, SoundStaysSound, frame_in, StoredIsRead, count, frames_from, waiting, added_by, given_by, Run, over, push, read, FirstInFirstOut, lsf_waiting, LsfWaitsUntilRead, FullStopsDataNotLsf, BuiltIsTaken}
 use Rattle.streams.proofs.Stored.{bytes_length, frame_of_lem, payload_five, payload_sixteen}
 use Rattle.streams.proofs.Cases.{next_below, curr_below, pushed-decoded, data_full, data_roomy, lsf_right, payload_short, payload_data, payload_lsf, read_frame}
 use Rattle.streams.proofs.Outcomes.{payload_thirty, tag, quiet_tag, read_tag, silent_tag, Quiet, ignored, malformed, wrong_store, out_of_bounds, Push, kept, data_queued, lsf_taken, push_outcome, Silent, nothing, no_store, no_state, Read, silent, lsf_given, frame_given, read_outcome}
@@ -173,6 +173,23 @@ refused_keeps_all x = (λ frame f. push_keeps x frame (refused_quiet (push_answe
 
 pub ignored_keeps_all : IgnoredKeepsAll
 ignored_keeps_all x = (λ frame e. push_keeps x frame (omega (arith, ap tag e)), λ e. read_keeps x (omega (arith, ap read_tag e)))
+
+-- the frame in an answer, where there is one, is of a stream
+abbrev streams_only : Result (Option ModulatorFrame) LentError → Bool
+streams_only (Ok None) = true
+streams_only (Ok (Some frame)) = of_streams frame
+streams_only (Err e) = true
+
+pub gives_streams : GivesStreams
+unfolding lsf_read frame_read
+gives_streams x frame e = sym (ap streams_only e) ∙ by (read_outcome x.queue x.store)
+  where
+    by : {r : StreamRead} → Read x.queue x.store r → streams_only r.answer ≡ true
+    by (silent nothing) = refl
+    by (silent no_store) = refl
+    by (silent no_state) = refl
+    by (lsf_given s m p) = refl
+    by (frame_given s m p) = refl
 
 -- ---- the bounds
 

@@ -1,5 +1,5 @@
 -- What is promised of the stream queue over several calls, from document 01. Each is proved in proofs/Kept.antt. Assumes nothing.
-use Rattle.std.specs.Prelude.{ℕ, zero, suc, ◌+◌, ◌-◌, ◌%◌, ◌≤◌, ◌<◌, true, false, ◌≢◌, ◌≡◌, List, [], ◌∷◌, ◌++◌, length, Result, Ok, Err, Option, Some, None}
+use Rattle.std.specs.Prelude.{ℕ, zero, suc, ◌+◌, ◌-◌, ◌%◌, ◌≤◌, ◌<◌, Bool, true, false, ◌≢◌, ◌≡◌, List, [], ◌∷◌, ◌++◌, length, Result, Ok, Err, Option, Some, None}
 use Rattle.choice.specs.Pick.{pick}
 use Rattle.crc.specs.Crc.{crc_of}
 use Rattle.room.specs.declared.LentError.{LentError}
@@ -47,6 +47,18 @@ RefusedKeepsAll =
 -- an ignored frame leaves no trace, and a read that answers nothing neither
 abbrev pub IgnoredKeepsAll : Type 0
 IgnoredKeepsAll = (x : Box) → ((frame : List ℕ) → push_answer x frame ≡ (Ok Ignored) → after_push x frame ≡ x) × ((next_of x).answer ≡ (Ok None) → after_read x ≡ x)
+
+-- what a stream transmission consists of: an LSF and stream frames
+abbrev pub of_streams : ModulatorFrame → Bool
+of_streams (Preamble delay) = false
+of_streams (Lsf lsf) = true
+of_streams (Stream frame) = true
+of_streams (Packet frame) = false
+of_streams EndOfTransmission = false
+
+-- a read gives no other frame
+abbrev pub GivesStreams : Type 0
+GivesStreams = (x : Box) (frame : ModulatorFrame) → (next_of x).answer ≡ Ok (Some frame) → of_streams frame ≡ true
 
 -- ---- the bounds
 

@@ -1,6 +1,6 @@
 -- What a read for the modulator answers, and the state, the queues and the channel after it, from document 01 under "To the modulator", "Channel access", "Answer numbers"
 -- and "Bounds for 8": `begun` where nothing is being sent, `stream_given` and `packet_given` in a transmission. Assumes nothing.
-use Rattle.std.specs.Prelude.{ℕ, Bool, List, eqb, length}
+use Rattle.std.specs.Prelude.{ℕ, Bool, List, eqb, length, Result, Ok, Err, Option, Some, None}
 use Rattle.choice.specs.Pick.{pick, and}
 use Rattle.channel.specs.declared.Channel.{Channel}
 use Rattle.channel.specs.Access.{sound_channel}
@@ -9,10 +9,13 @@ use Rattle.state.specs.declared.State.TheVariants.{TxEnding}
 use Rattle.state.specs.declared.Transmission.{Transmission}
 use Rattle.state.specs.declared.Transmission.TheVariants.{Receiving, Stream as InStream, StreamSent, Packet as InPacket, Ending}
 use Rattle.state.specs.State.{transmission_of, sound_state}
+use Rattle.room.specs.declared.LentError.{LentError}
+use Rattle.room.specs.declared.LentError.TheVariants.{WrongStore, OutOfBounds}
+use Rattle.room.specs.Room.{lent_number}
+use Rattle.protocol.specs.declared.ModulatorFrame.{ModulatorFrame}
+use Rattle.protocol.specs.declared.ModulatorFrame.TheVariants.{Preamble, Lsf, Stream, Packet, EndOfTransmission}
 use Rattle.sending.specs.declared.Sending.{Sending}
 use Rattle.sending.specs.Sending.{sound_sending}
-use Rattle.tx_frame.specs.declared.TxAnswer.{TxAnswer}
-use Rattle.tx_frame.specs.declared.TxAnswer.TheVariants.{Nothing, Preamble, Lsf, Stream, Packet, EndOfTransmission, WrongStore, OutOfBounds}
 use Rattle.tx_frame.specs.declared.TxRead.{TxRead}
 use Rattle.tx_frame.specs.Frame.{unfilled}
 use Rattle.tx_begin.specs.Begin.{begun}
@@ -34,37 +37,30 @@ all_sound state sending channel = and (sound_state state) (and (sound_sending se
 abbrev pub given : Transmission → State → Sending → Channel → List ℕ → List ℕ → TxRead
 given Receiving state sending channel packets streams = begun state sending channel
 given InStream state sending channel packets streams = stream_given sending channel streams
-given StreamSent state sending channel packets streams = unfilled EndOfTransmission TxEnding sending channel
+given StreamSent state sending channel packets streams = unfilled (Ok (Some EndOfTransmission)) TxEnding sending channel
 given InPacket state sending channel packets streams = packet_given sending channel packets
-given Ending state sending channel packets streams = unfilled Nothing state sending channel
+given Ending state sending channel packets streams = unfilled (Ok None) state sending channel
 
 -- stores (7), then state (8)
 unfoldable pub tx_read : State → Sending → Channel → List ℕ → List ℕ → TxRead
 tx_read state sending channel packets streams =
     pick (and (eqb (length packets) PACKETS) (eqb (length streams) STREAMS))
-    (pick (all_sound state sending channel) (given (transmission_of state) state sending channel packets streams) (unfilled OutOfBounds state sending channel))
-    (unfilled WrongStore state sending channel)
+    (pick (all_sound state sending channel) (given (transmission_of state) state sending channel packets streams) (unfilled (Err OutOfBounds) state sending channel))
+    (unfilled (Err WrongStore) state sending channel)
 
 -- ---- numbers
 
 -- document 01's number of an answer
-abbrev pub tx_number : TxAnswer → ℕ
-tx_number Nothing = 0
-tx_number Preamble = 0
-tx_number Lsf = 0
-tx_number Stream = 0
-tx_number Packet = 0
-tx_number EndOfTransmission = 0
-tx_number WrongStore = 7
-tx_number OutOfBounds = 8
+abbrev pub tx_number : Result (Option ModulatorFrame) LentError → ℕ
+tx_number (Ok frame) = 0
+tx_number (Err e) = lent_number e
 
 -- the number that event 08 prints for a frame's kind; with a refusal there is none
-abbrev pub kind_number : TxAnswer → ℕ
-kind_number Nothing = 0
-kind_number Preamble = 1
-kind_number Lsf = 2
-kind_number Stream = 3
-kind_number Packet = 4
-kind_number EndOfTransmission = 5
-kind_number WrongStore = 0
-kind_number OutOfBounds = 0
+abbrev pub kind_number : Result (Option ModulatorFrame) LentError → ℕ
+kind_number (Ok None) = 0
+kind_number (Ok (Some (Preamble delay))) = 1
+kind_number (Ok (Some (Lsf lsf))) = 2
+kind_number (Ok (Some (Stream frame))) = 3
+kind_number (Ok (Some (Packet frame))) = 4
+kind_number (Ok (Some EndOfTransmission)) = 5
+kind_number (Err e) = 0

@@ -1,21 +1,16 @@
 -- What is promised of the reads for the modulator, from document 01. Each is proved in proofs/Kept.antt. Assumes nothing.
-use Rattle.std.specs.Prelude.{ℕ, true, false, List, ◌≢◌, ◌≡◌, length, Ok}
+use Rattle.std.specs.Prelude.{ℕ, true, false, List, ◌≢◌, ◌≡◌, length, Ok, Some, None}
 use Rattle.channel.specs.declared.Channel.{Channel}
 use Rattle.channel.specs.declared.Access.TheVariants.{Sends}
 use Rattle.channel.specs.Access.{accessed}
-use Rattle.protocol.specs.declared.lsf.LsfFrame.{LsfFrame}
 use Rattle.protocol.specs.declared.StreamFrame.{StreamFrame}
-use Rattle.protocol.specs.declared.PacketFrame.{PacketFrame}
+use Rattle.protocol.specs.declared.ModulatorFrame.TheVariants.{Preamble, Stream, EndOfTransmission}
 use Rattle.state.specs.declared.State.{State}
 use Rattle.state.specs.declared.State.TheVariants.{TxStream, TxStreamSentEndOfStream, TxPacket, TxEnding}
 use Rattle.state.specs.State.{transmits}
-use Rattle.packets.specs.declared.ReadAnswer.TheVariants.{End}
-use Rattle.packets.specs.Queue.{is_empty, no_frame as no_piece, read_next as next_piece}
-use Rattle.streams.specs.Queue.{no_lsf, no_frame}
+use Rattle.packets.specs.Queue.{is_empty, read_next as next_piece}
 use Rattle.sending.specs.declared.Sending.{Sending}
 use Rattle.sending.specs.Sending.{wants_to_send}
-use Rattle.tx_frame.specs.declared.TxAnswer.{TxAnswer}
-use Rattle.tx_frame.specs.declared.TxAnswer.TheVariants.{Nothing, Preamble, Lsf, Stream, Packet, EndOfTransmission, WrongStore, OutOfBounds}
 use Rattle.tx_frame.specs.declared.TxRead.{TxRead}
 use Rattle.tnc_modulator.specs.Modulator.{PACKETS, STREAMS, all_sound, tx_read, tx_number}
 
@@ -60,58 +55,58 @@ SoundStaysSound = (x : Box) → Sound x → Sound (after_read x)
 -- a read never switches PTT off; it switches PTT on with a preamble, and only with one
 pub record Ptt (x : Box) : Type 0 where
   pub stays : transmits x.state ≡ true → transmits (read_of x).state ≡ true
-  pub comes : transmits x.state ≡ false → transmits (read_of x).state ≡ true → (read_of x).answer ≡ Preamble
-  pub keyed : (read_of x).answer ≡ Preamble → (transmits x.state ≡ false) × (transmits (read_of x).state ≡ true)
+  pub comes : transmits x.state ≡ false → transmits (read_of x).state ≡ true → (read_of x).answer ≡ Ok (Some (Preamble x.sending.tx_delay))
+  pub keyed : (delay : ℕ) → (read_of x).answer ≡ Ok (Some (Preamble delay)) → (transmits x.state ≡ false) × (transmits (read_of x).state ≡ true)
 
 abbrev pub PttFollows : Type 0
 PttFollows = (x : Box) → Ptt x
 
 -- the preamble is as long as the host set it
 abbrev pub PreambleHasTheDelay : Type 0
-PreambleHasTheDelay = (x : Box) → (read_of x).answer ≡ Preamble → (read_of x).tx_delay ≡ x.sending.tx_delay
+PreambleHasTheDelay = (x : Box) (delay : ℕ) → (read_of x).answer ≡ Ok (Some (Preamble delay)) → delay ≡ x.sending.tx_delay
 
 -- while a carrier is heard nothing is begun, but in full duplex
 abbrev pub CarrierHoldsBack : Type 0
-CarrierHoldsBack = (x : Box) → x.channel.carrier ≡ true → x.channel.duplex ≡ false → (read_of x).answer ≢ Preamble
+CarrierHoldsBack = (x : Box) → x.channel.carrier ≡ true → x.channel.duplex ≡ false → (delay : ℕ) → (read_of x).answer ≢ Ok (Some (Preamble delay))
 
 -- where something waits to be sent and the channel may be used, a transmission is begun
 abbrev pub KeysUp : Type 0
-KeysUp = (x : Box) → Sound x → transmits x.state ≡ false → wants_to_send x.sending ≡ true → (accessed x.channel).answer ≡ (Ok Sends) → (read_of x).answer ≡ Preamble
+KeysUp = (x : Box) → Sound x → transmits x.state ≡ false → wants_to_send x.sending ≡ true → (accessed x.channel).answer ≡ Ok Sends → (read_of x).answer ≡ Ok (Some (Preamble x.sending.tx_delay))
 
 -- with no LSF pending and no packet waiting nothing is begun, and nothing changes
 abbrev pub NothingToSendKeysNothing : Type 0
 NothingToSendKeysNothing =
     (x : Box) → Sound x → transmits x.state ≡ false → x.sending.streams.pending ≡ false → is_empty x.sending.packets ≡ true
-    → ((read_of x).answer ≡ Nothing) × (after_read x ≡ x)
+    → ((read_of x).answer ≡ Ok None) × (after_read x ≡ x)
 
 -- ---- order
 
 -- a pending stream LSF goes before packets
 abbrev pub LsfBeforePackets : Type 0
-LsfBeforePackets = (x : Box) → x.sending.streams.pending ≡ true → (read_of x).answer ≡ Preamble → (read_of x).state ≡ TxStream
+LsfBeforePackets = (x : Box) → x.sending.streams.pending ≡ true → (delay : ℕ) → (read_of x).answer ≡ Ok (Some (Preamble delay)) → (read_of x).state ≡ TxStream
 
 -- else it is packets that are begun
 abbrev pub PacketsBegin : Type 0
-PacketsBegin = (x : Box) → x.sending.streams.pending ≡ false → (read_of x).answer ≡ Preamble → (read_of x).state ≡ TxPacket
+PacketsBegin = (x : Box) → x.sending.streams.pending ≡ false → (delay : ℕ) → (read_of x).answer ≡ Ok (Some (Preamble delay)) → (read_of x).state ≡ TxPacket
 
 -- an end of transmission comes behind a stream's last frame, or where the packets that wait are spent
 pub data Spent (x : Box) : Type 0 where
   stream_spent : x.state ≡ TxStreamSentEndOfStream → Spent x
-  packets_spent : x.state ≡ TxPacket → (next_piece x.sending.packets x.packets).answer ≡ End → Spent x
+  packets_spent : x.state ≡ TxPacket → (next_piece x.sending.packets x.packets).answer ≡ Ok (Some EndOfTransmission) → Spent x
 
 abbrev pub EndOnlyWhenSpent : Type 0
-EndOnlyWhenSpent = (x : Box) → (read_of x).answer ≡ EndOfTransmission → Spent x × ((read_of x).state ≡ TxEnding)
+EndOnlyWhenSpent = (x : Box) → (read_of x).answer ≡ Ok (Some EndOfTransmission) → Spent x × ((read_of x).state ≡ TxEnding)
 
 -- after a stream frame marked as last comes the end of transmission, after another one it does not
 abbrev pub EndAfterTheLast : Type 0
 EndAfterTheLast =
-    (x : Box) → Sound x → (read_of x).answer ≡ Stream
-    → ((read_of x).stream.end_of_stream ≡ true → (read_of (after_read x)).answer ≡ EndOfTransmission)
-    × ((read_of x).stream.end_of_stream ≡ false → (read_of (after_read x)).answer ≢ EndOfTransmission)
+    (x : Box) → Sound x → (frame : StreamFrame) → (read_of x).answer ≡ Ok (Some (Stream frame))
+    → (frame.end_of_stream ≡ true → (read_of (after_read x)).answer ≡ Ok (Some EndOfTransmission))
+    × (frame.end_of_stream ≡ false → (read_of (after_read x)).answer ≢ Ok (Some EndOfTransmission))
 
 -- once an end was given nothing is answered, and nothing changes
 abbrev pub NothingAfterTheEnd : Type 0
-NothingAfterTheEnd = (x : Box) → Sound x → (read_of x).answer ≡ EndOfTransmission → ((read_of (after_read x)).answer ≡ Nothing) × (after_read (after_read x) ≡ after_read x)
+NothingAfterTheEnd = (x : Box) → Sound x → (read_of x).answer ≡ Ok (Some EndOfTransmission) → ((read_of (after_read x)).answer ≡ Ok None) × (after_read (after_read x) ≡ after_read x)
 
 -- ---- what a read leaves alone
 
@@ -123,23 +118,3 @@ pub record Left (x : Box) : Type 0 where
 
 abbrev pub QueuesStand : Type 0
 QueuesStand = (x : Box) → Left x
-
--- a read with another delay, LSF and frames
-abbrev pub filled_with : TxRead → ℕ → LsfFrame → StreamFrame → PacketFrame → TxRead
-filled_with r delay lsf stream packet =
-    record { answer = r.answer; tx_delay = delay; lsf = lsf; stream = stream; packet = packet; state = r.state; sending = r.sending; channel = r.channel }
-
--- a read with only what the answer's kind uses, and zeros in place of the rest
-abbrev pub only : TxAnswer → TxRead → TxRead
-only Nothing r = filled_with r 0 no_lsf no_frame no_piece
-only Preamble r = filled_with r r.tx_delay no_lsf no_frame no_piece
-only Lsf r = filled_with r 0 r.lsf no_frame no_piece
-only Stream r = filled_with r 0 no_lsf r.stream no_piece
-only Packet r = filled_with r 0 no_lsf no_frame r.packet
-only EndOfTransmission r = filled_with r 0 no_lsf no_frame no_piece
-only WrongStore r = filled_with r 0 no_lsf no_frame no_piece
-only OutOfBounds r = filled_with r 0 no_lsf no_frame no_piece
-
--- fields that the answer's kind does not use are zero
-abbrev pub UnusedIsZero : Type 0
-UnusedIsZero = (x : Box) → only (read_of x).answer (read_of x) ≡ read_of x

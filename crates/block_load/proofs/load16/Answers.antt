@@ -1,27 +1,18 @@
--- `block_load::load16` meets its contract. The invariant: the first k bytes have been read. Assumes nothing.
-use Rattle.std.proofs.Common.{ℕ, ◌-◌, ◌≡◌, sym, ap, ◌∙◌, arith, rules}
-use lib.ListN.{take, drop, length-set}
-use lib.Seq.{take_all}
+-- `block_load::load16` meets its contract. Assumes nothing.
+use Rattle.std.proofs.Common.{◌+◌, ◌<◌, ◌≤◌, ◌≡◌, sym, ◌∙◌, length, take, drop, rules}
+use Rattle.std.proofs.lemmas.Slice.{between_to_end}
 use Rattle.blocks.proofs.Blocks.{loaded-yes, loaded_no}
-use Rattle.blocks.proofs.Steps.{read_more}
 use Rattle.block_load.proofs.load16.Goals as goal
 
-pub returns-then-s-at : goal.returns-then-s-at
-returns-then-s-at c = let a = c.args in sym (loaded_no a.s.now a.at (omega arith))
-
-pub returns-then-s-at-lt16 : goal.returns-then-s-at-lt16
-returns-then-s-at-lt16 c = let a = c.args in sym (loaded_no a.s.now a.at (omega arith))
-
-pub loop-k-preserved : goal.loop-k-preserved
-loop-k-preserved c =
+pub returns-in-Some : goal.returns-in-Some
+returns-in-Some c =
     let a = c.args in
-    (search rules, simp length-set (omega arith), read_more a.s.now c.loop-k.t a.at c.loop-k.k (omega arith) (omega arith) c.loop-k.invariant.2)
+    let h : a.at + 16 ≤ length a.s.now = search rules in
+    let e : c.in-Some.t.now ≡ take 16 (drop a.at a.s.now) = search (rules, between_to_end) in
+    e ∙ sym (loaded-yes a.s.now a.at h)
 
-pub returns : goal.returns
-returns c =
+pub returns-in-None : goal.returns-in-None
+returns-in-None c =
     let a = c.args in
-    let all : c.loop-k.k ≡ 16 = omega arith in
-    sym (take_all c.loop-k.k c.loop-k.t (omega arith))
-    ∙ c.loop-k.invariant.2
-    ∙ ap (λ (n : ℕ). take n (drop a.at a.s.now)) all
-    ∙ sym (loaded-yes a.s.now a.at (omega arith))
+    let h : length a.s.now < a.at + 16 = search rules in
+    sym (loaded_no a.s.now a.at h)
