@@ -7,7 +7,7 @@ ghost use Rattle.air_lsf.specs.Begun.{lsf_heard};
 
 use kiss_build_stream::new_stream_setup;
 use protocol::{LsfFrame, Mode};
-use radio::{Heard, Hears, Radio};
+use radio::{Heard, Radio};
 use radio_hears::hears;
 use radio_told::told;
 use state::State;

@@ -22,11 +22,9 @@ use Rattle.state.specs.declared.Reception.TheVariants.{Nothing, Acquiring as Seg
 use Rattle.state.specs.declared.State.{State}
 use Rattle.state.specs.State.{transmits, reception_of}
 use Rattle.radio.specs.declared.Radio.{Radio}
-use Rattle.std.specs.Prelude.{Result}
+use Rattle.std.specs.Prelude.{Result, Ok, Err}
 use Rattle.radio.specs.declared.AirError.{AirError}
 use Rattle.radio.specs.declared.Heard.{Heard}
-use Rattle.radio.specs.declared.Hears.{Hears}
-use Rattle.radio.specs.declared.Hears.TheVariants.{Frame, Answer}
 use Rattle.radio.specs.Radio.{RX, MESSAGE, unless_sending, air_number}
 use Rattle.radio.specs.Box.{Box, left_by, Sound as RadioSound}
 use Rattle.radio.proofs.Kept as radio
@@ -51,18 +49,18 @@ abbrev pub box : World → Box
 box w = record { radio = w.tnc.radio; rx = w.rx; out = w.message }
 
 -- where the TNC hears, its stores and its record are right
-told-frame : Hears → Type 0
-told-frame Frame = Prim.Unit {0}
-told-frame (Answer a) = ⊥
+told-frame : Result (Unit {0}) AirError → Type 0
+told-frame (Ok done) = Prim.Unit {0}
+told-frame (Err e) = ⊥
 
-hears_sound : (w : World) → tnc_hears w.tnc w.rx w.message ≡ Frame → sound_tnc w.tnc ≡ true
+hears_sound : (w : World) → tnc_hears w.tnc w.rx w.message ≡ Ok tt → sound_tnc w.tnc ≡ true
 unfolding tnc_hears told-frame
 hears_sound w e = go (subst told-frame (sym e) Prim.tt)
   where
     go : told-frame (tnc_hears w.tnc w.rx w.message) → sound_tnc w.tnc ≡ true
-    go = pick_all (λ (k : Hears). told-frame k → sound_tnc w.tnc ≡ true) (eqb (length w.rx) RX) _ _
-        (λ t. pick_all (λ (k : Hears). told-frame k → sound_tnc w.tnc ≡ true) (eqb (length w.message) MESSAGE) _ _
-        (λ u. pick_all (λ (k : Hears). told-frame k → sound_tnc w.tnc ≡ true) (sound_tnc w.tnc) _ _ (λ v i. v) (λ v. absurd)) (λ u. absurd)) (λ t. absurd)
+    go = pick_all (λ (k : Result (Unit {0}) AirError). told-frame k → sound_tnc w.tnc ≡ true) (eqb (length w.rx) RX) _ _
+        (λ t. pick_all (λ (k : Result (Unit {0}) AirError). told-frame k → sound_tnc w.tnc ≡ true) (eqb (length w.message) MESSAGE) _ _
+        (λ u. pick_all (λ (k : Result (Unit {0}) AirError). told-frame k → sound_tnc w.tnc ≡ true) (sound_tnc w.tnc) _ _ (λ v i. v) (λ v. absurd)) (λ u. absurd)) (λ t. absurd)
 
 -- what holds of every refusal, and of what the radio comes to in a sound TNC, holds of a frame
 pub each_heard : (w : World) (h : Heard × List ℕ × List ℕ) (Q : TncHeard × List ℕ × List ℕ → Type 0) → ((a : (Result (Unit {0}) AirError)) → Q (record { answer = a; tnc = w.tnc }, w.rx, w.message))
@@ -70,9 +68,9 @@ pub each_heard : (w : World) (h : Heard × List ℕ × List ℕ) (Q : TncHeard �
 unfolding air_heard
 each_heard w h Q f d = go (tnc_hears w.tnc w.rx w.message) refl
   where
-    go : (k : Hears) → tnc_hears w.tnc w.rx w.message ≡ k → Q (heard_by k w.tnc w.rx w.message h)
-    go Frame e = d (hears_sound w e)
-    go (Answer a) e = f a
+    go : (k : Result (Unit {0}) AirError) → tnc_hears w.tnc w.rx w.message ≡ k → Q (heard_by k w.tnc w.rx w.message h)
+    go (Ok tt) e = d (hears_sound w e)
+    go (Err x) e = f (Err x)
 
 -- the world with another such part, where PTT follows the state
 abbrev with_box : World → Box → World
@@ -99,12 +97,12 @@ module _ (w : World) (s : Sound w) (h : Heard × List ℕ × List ℕ) where
   pub box_sound : RadioSound (box w)
   box_sound = record { its_rx = s.its_rx; its_out = s.its_message; its_state = (parts w.tnc s.its_tnc).its_radio }
 
-  hears-frame : tnc_hears w.tnc w.rx w.message ≡ Frame
+  hears-frame : tnc_hears w.tnc w.rx w.message ≡ Ok tt
   unfolding tnc_hears pick
   hears-frame = rw (eq-eqb (length w.rx) RX s.its_rx, eq-eqb (length w.message) MESSAGE s.its_message, s.its_tnc)
 
   comes_to : (put_heard w.tnc h.0, h.1, h.2) ≡ hears w h
-  comes_to = heard_as w.tnc w.rx w.message h Frame refl hears-frame
+  comes_to = heard_as w.tnc w.rx w.message h (Ok tt) refl hears-frame
 
   pub heard_sound : RadioSound (left_by h) → Sound (after_heard w (hears w h))
   heard_sound k =

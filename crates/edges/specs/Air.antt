@@ -1,13 +1,12 @@
 -- What frames from the air leave at the edges of document 01's "From the air", "LSF, LICH, frames" and "Answer numbers".
 -- Each fact rules out the wrong answer that it is named after. Assumes nothing.
-use Rattle.std.specs.Prelude.{ℕ, Bool, true, false, ◌≡◌, List, [], ◌∷◌, ◌++◌, replicate, Err}
+use Rattle.std.specs.Prelude.{ℕ, Bool, true, false, ◌≡◌, List, [], ◌∷◌, ◌++◌, replicate, Ok, Err}
 use Rattle.protocol.specs.declared.StreamFrame.{StreamFrame}
 use Rattle.protocol.specs.declared.PacketFrameCounter.TheVariants.{FinalFrame}
 use Rattle.state.specs.declared.State.{State}
 use Rattle.state.specs.declared.State.TheVariants.{Idle, RxAcquiringStream, RxStream, RxPacket}
 use Rattle.radio.specs.declared.Radio.{Radio}
 use Rattle.radio.specs.declared.AirError.TheVariants.{WrongStore}
-use Rattle.radio.specs.declared.Hears.TheVariants.{Frame, Answer}
 use Rattle.radio.specs.Radio.{hears_by}
 use Rattle.tnc_air.specs.Collected.{collected_at}
 use Rattle.air_lsf.specs.Begun.{lsf_heard}
@@ -34,7 +33,7 @@ pub record Air : Type 0 where
   -- a packet index must equal the count: behind index 0 comes index 1
   pub two_counted : (r : Radio) (payload : List ℕ) → (collected_at r 0 0 payload (replicate 855 0)).0.radio.state ≡ RxPacket 1
   -- a store not of its stated length is 7: the message's has 1,713 bytes
-  pub message_store_of_1712 : ((r : Radio) → hears_by r 855 1712 ≡ Answer (Err WrongStore)) × (hears_by (at Idle) 855 1713 ≡ Frame)
+  pub message_store_of_1712 : ((r : Radio) → hears_by r 855 1712 ≡ Err WrongStore) × (hears_by (at Idle) 855 1713 ≡ Ok true)
   -- acquisition restarts: six segments of five bytes stand from the store's start on
   pub segments_one_byte_on : (r : Radio) (number : ℕ) (last : Bool) (bytes : List ℕ)
       → (restarted r (stream 0 (replicate 5 7) number last bytes) (replicate 31 9)).1 ≡ replicate 5 7 ++ replicate 25 0 ++ 9 ∷ []

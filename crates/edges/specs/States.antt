@@ -7,7 +7,6 @@ use Rattle.channel_lent.specs.Lent.{set_by}
 use Rattle.state.specs.declared.State.TheVariants.{Idle, RxAcquiringStream, RxStream, TxEnding, TxEndingAtTime}
 use Rattle.state.specs.State.{transmits, sound_state, time_reached}
 use Rattle.tnc_link.specs.Numbers.{state_numbers, state_read}
-use Rattle.outgoing.specs.declared.HostAnswer.TheVariants.{Done as Given}
 use Rattle.outgoing.specs.Message.{host_read}
 
 pub record Channels : Type 0 where
@@ -47,10 +46,10 @@ pub record Saved : Type 0 where
 pub record Messages : Type 0 where
   -- the count is of the bytes that were given: here the message's only one, and the message is gone
   pub counts_nothing : (b r : ℕ) → host_read (record { len = 1; read = 0 }) (b ∷ replicate 1712 0) (r ∷ [])
-      ≡ (record { answer = Given; count = 1; outgoing = record { len = 0; read = 0 } }, b ∷ [])
+      ≡ (record { answer = Ok 1; outgoing = record { len = 0; read = 0 } }, b ∷ [])
   -- the bytes go to the start of the room, and its bytes beyond the count stay
   pub one_byte_on : (b r s : ℕ) → host_read (record { len = 1; read = 0 }) (b ∷ replicate 1712 0) (r ∷ s ∷ [])
-      ≡ (record { answer = Given; count = 1; outgoing = record { len = 0; read = 0 } }, b ∷ s ∷ [])
+      ≡ (record { answer = Ok 1; outgoing = record { len = 0; read = 0 } }, b ∷ s ∷ [])
   -- no more is given than there is room for, and the rest is left to read: of one byte into no room, and of two into a room of one
-  pub past_the_room : ((b : ℕ) → host_read (record { len = 1; read = 0 }) (b ∷ replicate 1712 0) [] ≡ (record { answer = Given; count = 0; outgoing = record { len = 1; read = 0 } }, []))
-      × ((b c r : ℕ) → host_read (record { len = 2; read = 0 }) (b ∷ c ∷ replicate 1711 0) (r ∷ []) ≡ (record { answer = Given; count = 1; outgoing = record { len = 2; read = 1 } }, b ∷ []))
+  pub past_the_room : ((b : ℕ) → host_read (record { len = 1; read = 0 }) (b ∷ replicate 1712 0) [] ≡ (record { answer = Ok 0; outgoing = record { len = 1; read = 0 } }, []))
+      × ((b c r : ℕ) → host_read (record { len = 2; read = 0 }) (b ∷ c ∷ replicate 1711 0) (r ∷ []) ≡ (record { answer = Ok 1; outgoing = record { len = 2; read = 1 } }, b ∷ []))

@@ -1,9 +1,8 @@
 -- What an event answers: its number, how many bytes it prints, PTT as after it, from document 01's "Event program". Assumes nothing.
-use Rattle.std.specs.Prelude.{ℕ, Bool, true, false, Result, Ok, Err}
+use Rattle.std.specs.Prelude.{ℕ, Bool, false, Result, Ok, Err}
 use Rattle.channel.specs.declared.Channel.{Channel}
 use Rattle.tnc_core.specs.declared.Tnc.{Tnc}
 use Rattle.room.specs.declared.LentError.{LentError}
-use Rattle.room.specs.declared.LentError.TheVariants.{OutOfBounds as NoPtt}
 use Rattle.tnc_core.specs.Tnc.{ptt_of}
 use Rattle.event_answer.specs.declared.EventBox.{EventBox}
 use Rattle.event_answer.specs.declared.Applied.{Applied}
@@ -18,9 +17,8 @@ LINE = 518
 
 -- PTT; a state out of bounds has none, and prints 0
 abbrev pub on_flag : Result Bool LentError → Bool
-on_flag (Ok false) = false
-on_flag (Ok true) = true
-on_flag (Err NoPtt) = false
+on_flag (Ok on) = on
+on_flag (Err e) = false
 
 abbrev pub keyed : Tnc → Bool
 keyed t = on_flag (ptt_of t)

@@ -11,13 +11,11 @@ use Rattle.radio.specs.declared.AirError.TheVariants.{OutOfRange as AirRange, Wr
 use Rattle.channel.specs.declared.ChannelError.{ChannelError}
 use Rattle.channel.specs.declared.ChannelError.TheVariants.{OutOfRange as SetRange, OutOfBounds as SetBounds}
 use Rattle.room.specs.declared.LentError.{LentError}
-use Rattle.room.specs.declared.LentError.TheVariants.{OutOfBounds as NoPtt}
+use Rattle.room.specs.declared.LentError.TheVariants.{WrongStore as LentStore, OutOfBounds as LentBounds}
 use Rattle.channel.specs.Access.{carrier_set, set_number}
 use Rattle.kiss_calls.specs.declared.WriteAnswer.{WriteAnswer}
 use Rattle.kiss_calls.specs.declared.WriteAnswer.TheVariants.{Done as Written, Full, WrongStore as WriteStore, OutOfBounds as WriteBounds}
 use Rattle.kiss_calls.specs.Calls.{write_number}
-use Rattle.outgoing.specs.declared.HostAnswer.{HostAnswer}
-use Rattle.outgoing.specs.declared.HostAnswer.TheVariants.{Done as Read, WrongStore as ReadStore, OutOfBounds as ReadBounds}
 use Rattle.outgoing.specs.Message.{host_number}
 use Rattle.radio.specs.Radio.{air_number}
 use Rattle.tx_frame.specs.declared.TxAnswer.{TxAnswer}
@@ -38,10 +36,10 @@ write_digit Full = omega arith
 write_digit WriteStore = omega arith
 write_digit WriteBounds = omega arith
 
-read_digit : (a : HostAnswer) → host_number a ≤ 9
-read_digit Read = omega arith
-read_digit ReadStore = omega arith
-read_digit ReadBounds = omega arith
+read_digit : (a : Result ℕ LentError) → host_number a ≤ 9
+read_digit (Ok n) = omega arith
+read_digit (Err LentStore) = omega arith
+read_digit (Err LentBounds) = omega arith
 
 air_digit : (a : (Result (Unit {0}) AirError)) → air_number a ≤ 9
 air_digit (Ok tt) = omega arith
@@ -55,9 +53,9 @@ set_digit (Err SetRange) = omega arith
 set_digit (Err SetBounds) = omega arith
 
 ptt_digit : (a : (Result Bool LentError)) → ptt_number a ≤ 9
-ptt_digit (Ok false) = omega arith
-ptt_digit (Ok true) = omega arith
-ptt_digit (Err NoPtt) = omega arith
+ptt_digit (Ok on) = omega arith
+ptt_digit (Err LentStore) = omega arith
+ptt_digit (Err LentBounds) = omega arith
 
 kind_digit : (a : TxAnswer) → kind_number a ≤ 9
 kind_digit Nothing = omega arith

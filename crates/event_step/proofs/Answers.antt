@@ -13,7 +13,7 @@ use lib.ListN.{length, drop}
 use Rattle.room.specs.Room.{over}
 use Rattle.channel.specs.declared.Channel.{Channel}
 use Rattle.kiss_calls.specs.Calls.{write_number}
-use Rattle.outgoing.specs.Message.{host_number}
+use Rattle.outgoing.specs.Message.{read_count, host_number}
 use Rattle.tnc.specs.declared.TncWritten.{TncWritten}
 use Rattle.tnc_read.specs.declared.TncRead.{TncRead}
 use Rattle.event_step.specs.Host.{of_write, of_read}
@@ -27,9 +27,9 @@ timed_is s e f g = e ∙ (λ j. answered (f j) 0 s.tnc s.channel) ∙ ap of_time
 pub write_is : (w : TncWritten) (a b c : List ℕ) {n : ℕ} {r : Applied} {q : TncWritten × List ℕ × List ℕ × List ℕ} → r ≡ answered n 0 w.tnc w.channel → n ≡ write_number w.answer → (w, a, b, c) ≡ q → (r, a, b, c) ≡ of_write q
 write_is w a b c e f g = (λ j. (e j, a, b, c)) ∙ (λ j. (answered (f j) 0 w.tnc w.channel, a, b, c)) ∙ ap of_write g
 
-read_is : (c : Channel) (g : TncRead) (room a : List ℕ) {n : ℕ} {r : Applied} {q : TncRead × List ℕ} → r ≡ answered n g.count g.tnc c → n ≡ host_number g.answer → (g, a) ≡ q → (r, over a room) ≡ of_read c q room
-read_is c g room a e f h = (λ j. (e j, over a room)) ∙ (λ j. (answered (f j) g.count g.tnc c, over a room)) ∙ ap (λ (q : TncRead × List ℕ). of_read c q room) h
+read_is : (c : Channel) (g : TncRead) (room a : List ℕ) {n : ℕ} {r : Applied} {q : TncRead × List ℕ} → r ≡ answered n (read_count g.answer) g.tnc c → n ≡ host_number g.answer → (g, a) ≡ q → (r, over a room) ≡ of_read c q room
+read_is c g room a e f h = (λ j. (e j, over a room)) ∙ (λ j. (answered (f j) (read_count g.answer) g.tnc c, over a room)) ∙ ap (λ (q : TncRead × List ℕ). of_read c q room) h
 
 -- the room was lent up to n
-pub read_part : (c : Channel) (g : TncRead) (room a : List ℕ) (k : ℕ) {n : ℕ} {r : Applied} {q : TncRead × List ℕ} → k ≡ length a → r ≡ answered n g.count g.tnc c → n ≡ host_number g.answer → (g, a) ≡ q → (r, a ++ drop k room) ≡ of_read c q room
+pub read_part : (c : Channel) (g : TncRead) (room a : List ℕ) (k : ℕ) {n : ℕ} {r : Applied} {q : TncRead × List ℕ} → k ≡ length a → r ≡ answered n (read_count g.answer) g.tnc c → n ≡ host_number g.answer → (g, a) ≡ q → (r, a ++ drop k room) ≡ of_read c q room
 read_part c g room a k {r = r} l e f h = (λ j. (r, a ++ drop (l j) room)) ∙ read_is c g room a e f h

@@ -12,10 +12,9 @@ use Rattle.std.specs.Prelude.{Result, Ok, Err}
 use Rattle.channel.specs.declared.Access.{Access}
 use Rattle.channel.specs.declared.ChannelError.{ChannelError}
 use Rattle.channel.specs.declared.Access.TheVariants.{Sends, Waits}
-use Rattle.channel.specs.declared.ChannelError.TheVariants.{OutOfBounds as NoAccess}
 use Rattle.channel.specs.Access.{accessed}
 use Rattle.outgoing.specs.declared.HostRead.{HostRead}
-use Rattle.outgoing.specs.Message.{host_read}
+use Rattle.outgoing.specs.Message.{host_read, read_count}
 use Rattle.protocol.specs.declared.lsf.LsfFrame.{LsfFrame}
 use Rattle.protocol.specs.declared.StreamFrame.{StreamFrame}
 use Rattle.protocol.specs.declared.PacketFrame.{PacketFrame}
@@ -131,7 +130,7 @@ allowed_small : (a : (Result Access ChannelError)) (state : State) (sending : Se
 unfolding keyed_up
 allowed_small (Ok Sends) state sending channel = none_small
 allowed_small (Ok Waits) state sending channel = none_small
-allowed_small (Err NoAccess) state sending channel = none_small
+allowed_small (Err e) state sending channel = none_small
 
 given_small : (t : Transmission) (state : State) (sending : Sending) (channel : Channel) (packets streams : List ℕ) → TxSmall (given t state sending channel packets streams)
 unfolding begun stream_given packet_given
@@ -161,13 +160,13 @@ gives_small w =
 
 -- ---- 09: no more than there is room for
 
-host_few : (w : World) (target : List ℕ) → (tnc_read w.tnc w.message target).0.count ≤ length target
+host_few : (w : World) (target : List ℕ) → read_count (tnc_read w.tnc w.message target).0.answer ≤ length target
 unfolding tnc_read host_read
 host_few w target =
-    pick_all (λ (r : TncRead × List ℕ). r.0.count ≤ length target) _ _ _
-    (λ e. pick_all (λ (r : TncRead × List ℕ). r.0.count ≤ length target) _ _ _
-    (λ e. pick_all (λ (r : HostRead × List ℕ). r.0.count ≤ length target) _ _ _
-    (λ e. pick_all (λ (r : HostRead × List ℕ). r.0.count ≤ length target) _ _ _ (λ e. omega arith) (λ e. omega arith))
+    pick_all (λ (r : TncRead × List ℕ). read_count r.0.answer ≤ length target) _ _ _
+    (λ e. pick_all (λ (r : TncRead × List ℕ). read_count r.0.answer ≤ length target) _ _ _
+    (λ e. pick_all (λ (r : HostRead × List ℕ). read_count r.0.answer ≤ length target) _ _ _
+    (λ e. pick_all (λ (r : HostRead × List ℕ). read_count r.0.answer ≤ length target) _ _ _ (λ e. omega arith) (λ e. omega arith))
     (λ e. omega arith))
     (λ e. omega arith))
     (λ e. omega arith)

@@ -4,6 +4,7 @@ use Rattle.std.specs.Prelude.{ℕ, Bool, not, List, leb, eqb, length, take, get_
 use Rattle.std.proofs.Math.Option.{Option, none, some}
 use Rattle.choice.specs.Pick.{pick}
 use Rattle.room.specs.Room.{over}
+use Rattle.outgoing.specs.Message.{read_count}
 use Rattle.streams.specs.Layout.{frame_of}
 use Rattle.tnc_modulator.specs.Modulator.{kind_number}
 use Rattle.any_calls.specs.Calls.{World, Call, write_kiss, read_kiss, handle_lsf, handle_packet, handle_stream, set_data_carrier_detect, set_now, set_tx_end_time, ptt, read_tx_frame, reads, gives, after, number}
@@ -32,7 +33,7 @@ call_of kind body room =
 
 unfoldable pub bytes_after : World → Call → List ℕ → ℕ × List ℕ
 bytes_after w (write_kiss buf) room = (0, room)
-bytes_after w (read_kiss target) room = ((reads w target).0.count, over (reads w target).1 room)
+bytes_after w (read_kiss target) room = (read_count (reads w target).0.answer, over (reads w target).1 room)
 bytes_after w (handle_lsf lsf) room = (0, room)
 bytes_after w (handle_packet f) room = (0, room)
 bytes_after w (handle_stream f) room = (0, room)

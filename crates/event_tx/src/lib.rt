@@ -9,8 +9,8 @@ ghost use Rattle.event_answer.specs.Answer.{MOST, refused};
 ghost use Rattle.event_tx.specs.Tx.{laid_out, of_tx};
 
 use event_answer::{Applied, EventBox, MOST_BYTES, answer, refuse};
-use tnc_transmit::TncTx;
-use tx_frame::TxAnswer;
+use protocol::ModulatorFrame;
+use room::LentError;
 
 pub fn read_tx(
     before: EventBox,
@@ -21,69 +21,52 @@ pub fn read_tx(
 ) -> Applied
     ensures { (result, bytes.new) ≡ pick (eqb (length body.now) 0) (pick (leb MOST (length bytes.old)) (of_tx (tnc_tx before.tnc before.channel packets.now streams.now) bytes.old) (refused before, bytes.old)) (refused before, bytes.old) }
 {
-    if body.len() != 0 {
+    if (body.len() != 0) | (bytes.len() < MOST_BYTES) {
         return refuse(before);
     }
-    if bytes.len() < MOST_BYTES {
-        return refuse(before);
-    }
-    let tnc = before.tnc;
-    let channel = before.channel;
-    let read = tnc_transmit::read_tx_frame(tnc, channel, packets, streams);
-    let count = lay_out(read, bytes);
-    let given = read.answer;
-    let tnc_after = read.tnc;
-    let channel_after = read.channel;
-    answer(kind_number(given), count, tnc_after, channel_after)
+    let read = tnc_transmit::read_tx_frame(before.tnc, before.channel, packets, streams);
+    let count = lay_out(read.answer, bytes);
+    answer(kind_number(read.answer), count, read.tnc, read.channel)
 }
 
 // The bytes of a frame for the modulator: its delay, the LSF, or a frame as the body of its event.
-fn lay_out(read: TncTx, bytes: &mut [u8]) -> usize
+fn lay_out(given: Result<Option<ModulatorFrame>, LentError>, bytes: &mut [u8]) -> usize
     requires { MOST ≤ length bytes.old }
-    ensures { (result, bytes.new) ≡ laid_out read.answer read bytes.old }
+    ensures { (result, bytes.new) ≡ laid_out given bytes.old }
 {
-    let given = read.answer;
-    match given {
-        TxAnswer::Nothing => 0,
-        TxAnswer::Preamble => {
-            bytes[0] = read.tx_delay;
+    let Ok(Some(frame)) = given else {
+        return 0;
+    };
+    match frame {
+        ModulatorFrame::Preamble { tx_delay } => {
+            bytes[0] = tx_delay;
             1
         }
-        TxAnswer::Lsf => {
-            let frame = read.lsf;
-            let all = frame.0;
-            store::copy_in(&all, bytes, 0);
+        ModulatorFrame::Lsf(lsf) => {
+            bytes[..30].copy_from_slice(&lsf.0);
             30
         }
-        TxAnswer::Stream => {
-            let frame = read.stream;
-            let all = event_stream::stream_body(frame);
-            store::copy_in(&all, bytes, 0);
+        ModulatorFrame::Stream(frame) => {
+            bytes[..25].copy_from_slice(&event_stream::stream_body(frame));
             25
         }
-        TxAnswer::Packet => {
-            let frame = read.packet;
-            let all = event_packet::packet_body(frame);
-            store::copy_in(&all, bytes, 0);
+        ModulatorFrame::Packet(frame) => {
+            bytes[..26].copy_from_slice(&event_packet::packet_body(frame));
             26
         }
-        TxAnswer::EndOfTransmission => 0,
-        TxAnswer::WrongStore => 0,
-        TxAnswer::OutOfBounds => 0,
+        ModulatorFrame::EndOfTransmission => 0,
     }
 }
 
-fn kind_number(answer: TxAnswer) -> u8
-    ensures { result ≡ kind_number answer }
+fn kind_number(given: Result<Option<ModulatorFrame>, LentError>) -> u8
+    ensures { result ≡ kind_number given }
 {
-    match answer {
-        TxAnswer::Nothing => 0,
-        TxAnswer::Preamble => 1,
-        TxAnswer::Lsf => 2,
-        TxAnswer::Stream => 3,
-        TxAnswer::Packet => 4,
-        TxAnswer::EndOfTransmission => 5,
-        TxAnswer::WrongStore => 0,
-        TxAnswer::OutOfBounds => 0,
+    match given {
+        Ok(Some(ModulatorFrame::Preamble { .. })) => 1,
+        Ok(Some(ModulatorFrame::Lsf(_))) => 2,
+        Ok(Some(ModulatorFrame::Stream(_))) => 3,
+        Ok(Some(ModulatorFrame::Packet(_))) => 4,
+        Ok(Some(ModulatorFrame::EndOfTransmission)) => 5,
+        Ok(None) | Err(_) => 0,
     }
 }

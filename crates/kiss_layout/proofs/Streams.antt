@@ -1,14 +1,13 @@
--- The content of a stream data frame: the stores that make it, its length, and that it stands for the frame. Assumes nothing.
+-- The content of a stream data frame: its length, and that it stands for the frame. Assumes nothing.
 use mathlib.Core.Path.{◌≡◌, sym, ap, ◌∙◌}
 use mathlib.Core.Bool.{Bool, true, false}
-use mathlib.Core.List.{List, [], ◌∷◌, ◌++◌}
+use mathlib.Core.List.{List, ◌∷◌}
 use Prim.Native.Nat.{ℕ, ◌+◌, ◌*◌, ◌/◌, ◌%◌, ◌≤◌}
 use native.Mathlib.Omega.{arith}
 use lib.Dec.{leb}
-use lib.ListN.{length, take, drop, get_or, set, length-append}
-use lib.Seq.{sets, take_at, get_or-append-add, drop-append-add}
+use lib.ListN.{length, take, drop, get_or, length-append}
+use lib.Seq.{take_at, get_or-append-add, drop-append-add}
 use borrow.Author.Tests.{le-leb, lt-leb}
-use Rattle.room.proofs.Runs.{put_all, sets_append}
 use Rattle.crc.specs.Crc.{crc_of, two_bytes, sealed}
 use Rattle.crc.proofs.Kept.{sealed_gives_zero, sealed-length}
 use Rattle.protocol.specs.declared.StreamFrame.{StreamFrame}
@@ -17,19 +16,6 @@ use Rattle.kiss_layout.specs.Stream.{end_mark, numbered_data, stream_content, st
 pub end_mark-small : (e : Bool) → end_mark e ≤ 128
 end_mark-small true = omega arith
 end_mark-small false = omega arith
-
-pub content_stored : (z part inner : List ℕ) (i a b : ℕ) → length z ≡ 26 → length part ≡ 5 → length inner ≡ 18
-    → set (set (sets (set (sets z 0 part) 5 i) 6 inner) 24 a) 25 b ≡ part ++ (i ∷ (inner ++ (a ∷ b ∷ [])))
-content_stored z part inner i a b z26 five eighteen =
-    let p : 0 + length part ≡ 5 = omega arith in
-    let q : 6 + length inner ≡ 24 = omega arith in
-    let all : length (part ++ (i ∷ (inner ++ (a ∷ b ∷ [])))) ≡ length z =
-    omega (arith, length-append part (i ∷ (inner ++ (a ∷ b ∷ []))), length-append inner (a ∷ b ∷ [])) in
-    sym (ap (λ (n : ℕ). sets (sets (set (sets z 0 part) 5 i) 6 inner) n (a ∷ b ∷ [])) q)
-    ∙ sym (sets_append (set (sets z 0 part) 5 i) 6 inner (a ∷ b ∷ []))
-    ∙ sym (ap (λ (n : ℕ). sets (sets z 0 part) n (i ∷ (inner ++ (a ∷ b ∷ [])))) p)
-    ∙ sym (sets_append z 0 part (i ∷ (inner ++ (a ∷ b ∷ []))))
-    ∙ put_all z (part ++ (i ∷ (inner ++ (a ∷ b ∷ [])))) all
 
 -- ---- what a content stands for
 

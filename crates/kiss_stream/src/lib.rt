@@ -8,10 +8,11 @@ ghost use Rattle.kiss_stream.specs.Checked.{checked_content};
 use protocol::StreamFrame;
 
 // The content, unless the LICH index or the frame number is out of range. A number over 32,767 would mark the end.
+#[tactic(auto, unfolding(crate::specs::Checked::checked_content, choice::specs::Pick::pick))]
 pub fn checked_content(frame: StreamFrame) -> Option<[u8; 26]>
     ensures { result ≡ checked_content frame }
 {
-    if (5 < frame.lich_idx) | (32767 < frame.frame_number) {
+    if (5 < frame.lich_idx) || (32767 < frame.frame_number) {
         return None;
     }
     Some(stream_content(frame))
@@ -22,15 +23,12 @@ fn stream_content(frame: StreamFrame) -> [u8; 26]
     requires { (frame.lich_idx ≤ 5) × (frame.frame_number ≤ 32767) }
     ensures { result ≡ stream_content frame }
 {
-    let part = frame.lich_part;
     let inner = numbered_data(frame);
-    let crc = crc::m17_crc(&inner);
     let mut content = [0u8; 26];
-    store::copy_in(&part, &mut content, 0);
+    content[..5].copy_from_slice(&frame.lich_part);
     content[5] = frame.lich_idx * 32;
-    store::copy_in(&inner, &mut content, 6);
-    content[24] = (crc / 256) as u8;
-    content[25] = (crc % 256) as u8;
+    content[6..24].copy_from_slice(&inner);
+    content[24..].copy_from_slice(&crc::m17_crc(&inner).to_be_bytes());
     content
 }
 
@@ -39,12 +37,10 @@ fn numbered_data(frame: StreamFrame) -> [u8; 18]
     requires { frame.frame_number ≤ 32767 }
     ensures { result ≡ numbered_data frame }
 {
-    let number = frame.frame_number;
-    let bytes = frame.stream_data;
     let mut inner = [0u8; 18];
-    inner[0] = (number / 256) as u8 + end_mark(frame.end_of_stream);
-    inner[1] = (number % 256) as u8;
-    store::copy_in(&bytes, &mut inner, 2);
+    inner[..2].copy_from_slice(&frame.frame_number.to_be_bytes());
+    inner[0] += end_mark(frame.end_of_stream);
+    inner[2..].copy_from_slice(&frame.stream_data);
     inner
 }
 

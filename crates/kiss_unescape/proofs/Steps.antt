@@ -2,16 +2,18 @@
 use mathlib.Core.Path.{◌≡◌, refl, sym, ap, ap₂, ◌∙◌}
 use mathlib.Core.Bool.{Bool, true, false, ◌||◌}
 use mathlib.Core.List.{List, [], ◌∷◌, ◌++◌, map}
-use Prim.Native.Nat.{ℕ, suc, ◌+◌, ◌-◌, ◌≤◌, ◌<◌, min}
+use Prim.Native.Nat.{ℕ, zero, suc, ◌+◌, ◌-◌, ◌*◌, ◌/◌, ◌≤◌, ◌<◌, min}
 use native.Mathlib.Nat.{add-zero, add-suc, suc-add, le_step}
 use native.Mathlib.Numerals.{add-one}
 use native.Mathlib.Omega.{arith}
 use lib.Dec.{eqb}
-use lib.ListN.{length, drop, get_or, set, length-append, length-map, drop_of_length-le}
-use lib.Seq.{sets, drop-cons, set_out, set-get_or}
+use lib.ListN.{length, take, drop, get_or, set, length-append, length-map, length-drop, take-append-drop, drop_of_length-le}
+use lib.Seq.{sets, drop-cons, drop-drop, length-take-le, set_out, set-get_or}
 use Rattle.choice.specs.Pick.{pick}
-use Rattle.blocks.specs.Block.{loaded, stored, without}
-use Rattle.blocks.proofs.Blocks.{loaded-length, loaded-split, stored_in, without_first, without_rest}
+use Rattle.std.specs.Simd.{first_chunks}
+use Rattle.std.proofs.lemmas.List.{take_rest}
+use Rattle.blocks.specs.Block.{stored, without}
+use Rattle.blocks.proofs.Blocks.{stored_in, without_first, without_rest}
 use Rattle.kiss_layout.specs.Escape.{FEND, FESC, TFEND, TFESC}
 use Rattle.kiss_layout.specs.Unescape.{Code, byte, as_found, after_fesc, codes, laid, lay, unescaped}
 use Rattle.kiss_layout.proofs.Codes.{after_fesc-known, after_fesc-other, codes_byte, codes_pair, codes_last}
@@ -77,7 +79,7 @@ pub all_laid : (s d : List ℕ) {n : ℕ} {r : List ℕ} → n ≡ min (length (
 unfolding unescaped
 all_laid s d e f = let g = f ∙ lays-lay (codes s) d in λ t. (e t, g t)
 
--- ---- a block with no FESC, read n bytes behind at
+-- ---- a block with no FESC, n bytes behind the front
 
 codes-plain : (t s : List ℕ) → without FESC t ≡ true → codes (t ++ s) ≡ map byte t ++ codes s
 codes-plain [] s f = refl
@@ -87,27 +89,46 @@ lays_append : (d : List ℕ) (j : ℕ) (t : List ℕ) (e : List Code) → lays d
 lays_append d j [] e = rw add-zero
 lays_append d j (x ∷ t) e = rw (add-suc, ← suc-add) (lays_append _ (suc j) t e)
 
-module _ (s t : List ℕ) (at n : ℕ) (e : t ≡ loaded s (at + n)) (h : at + n + 16 ≤ length s) {p : Bool} (f : p ≡ without FESC t) (clear : p ≡ true) where
+chunk_at : (m k : ℕ) (s : List ℕ) → k < m → get_or (first_chunks 16 m s) k [] ≡ take 16 (drop (k * 16) s)
+chunk_at zero k s h = absurd (omega arith)
+chunk_at (suc m) zero s h = refl
+chunk_at (suc m) (suc k) s h =
+    let next : 16 + k * 16 ≡ suc k * 16 = omega arith in
+    chunk_at m k (drop 16 s) (omega arith) ∙ ap (take 16) (drop-drop (k * 16) 16 s ∙ ap (λ (n : ℕ). drop n s) next)
+
+pub chunk_in : (s : List ℕ) {bs : List (List ℕ)} (k : ℕ) {n : ℕ} → bs ≡ first_chunks 16 (length s / 16) s → k < length s / 16 → n ≡ k * 16 → get_or bs k [] ≡ take 16 (drop n s)
+chunk_in s k e h q = rw (e, q) (chunk_at (length s / 16) k s h)
+
+module _ (s t : List ℕ) (n : ℕ) (e : t ≡ take 16 (drop n s)) (h : n + 16 ≤ length s) {p : Bool} (f : p ≡ without FESC t) (clear : p ≡ true) where
   size : length t ≡ 16
-  size = loaded-length s t (at + n) e h
+  size = ap length e ∙ length-take-le 16 (drop n s) (omega (arith, length-drop n s))
 
-  codes-left : codes (drop (at + n) s) ≡ map byte t ++ codes (drop (at + (n + 16)) s)
+  codes-left : codes (drop n s) ≡ map byte t ++ codes (drop (n + 16) s)
   codes-left =
-      let next : at + n + 16 ≡ at + (n + 16) = omega arith in
-      ap codes (loaded-split s t (at + n) e h) ∙ codes-plain t (drop (at + n + 16) s) (sym f ∙ clear) ∙ ap (λ (m : ℕ). map byte t ++ codes (drop m s)) next
+      ap codes (sym (take-append-drop 16 (drop n s)) ∙ ap (λ (l : List ℕ). take 16 (drop n s) ++ l) (drop-drop 16 n s) ∙ ap (λ (l : List ℕ). l ++ drop (n + 16) s) (sym e))
+      ∙ codes-plain t (drop (n + 16) s) (sym f ∙ clear)
 
-  pub plain-length : length (codes (drop (at + n) s)) ≡ 16 + length (codes (drop (at + (n + 16)) s))
-  plain-length = omega (arith, ap length codes-left, length-append (map byte t) (codes (drop (at + (n + 16)) s)), length-map t byte, size)
+  pub plain-length : length (codes (drop n s)) ≡ 16 + length (codes (drop (n + 16) s))
+  plain-length = omega (arith, ap length codes-left, length-append (map byte t) (codes (drop (n + 16) s)), length-map t byte, size)
 
   pub plain_put : (d d' : List ℕ) (to : ℕ) {r : List ℕ} → d' ≡ stored t d (to + n) → to + n + 16 ≤ length d
-      → lays d (to + n) (codes (drop (at + n) s)) ≡ r → lays d' (to + (n + 16)) (codes (drop (at + (n + 16)) s)) ≡ r
+      → lays d (to + n) (codes (drop n s)) ≡ r → lays d' (to + (n + 16)) (codes (drop (n + 16) s)) ≡ r
   plain_put d d' to k fit rest =
       let m : to + n + length t ≤ length d = omega (arith, size) in
       let next : to + (n + 16) ≡ to + n + length t = omega (arith, size) in
-      ap₂ (λ (x : List ℕ) (a : ℕ). lays x a (codes (drop (at + (n + 16)) s))) (stored_in t d (to + n) k m) next
-      ∙ sym (lays_append d (to + n) t (codes (drop (at + (n + 16)) s)))
+      ap₂ (λ (x : List ℕ) (a : ℕ). lays x a (codes (drop (n + 16) s))) (stored_in t d (to + n) k m) next
+      ∙ sym (lays_append d (to + n) t (codes (drop (n + 16) s)))
       ∙ ap (lays d (to + n)) (sym codes-left)
       ∙ rest
+
+-- blocks copied from index i of a content on, said of the content
+pub from_index : (s d d' : List ℕ) (i j n : ℕ) → i ≤ length s
+    → (n ≤ length (take (length s - i) (drop i s))) × (j + n ≤ length d) × (n + length (codes (drop n (take (length s - i) (drop i s)))) ≡ length (codes (take (length s - i) (drop i s)))) × (lays d' (j + n) (codes (drop n (take (length s - i) (drop i s)))) ≡ lays d j (codes (take (length s - i) (drop i s))))
+    → (i + n ≤ length s) × (j + n ≤ length d) × (n + length (codes (drop (i + n) s)) ≡ length (codes (drop i s))) × (lays d' (j + n) (codes (drop (i + n) s)) ≡ lays d j (codes (drop i s)))
+from_index s d d' i j n h e =
+    let whole : take (length s - i) (drop i s) ≡ drop i s = take_rest s i in
+    let f = rw (whole, drop-drop n i s) at e in
+    (omega (arith, f.0, length-drop i s), f.1, f.2, f.3)
 
 -- ---- the bytes that are done one by one
 

@@ -19,13 +19,13 @@ module _ (f : List ℕ) where
   count = count_of (decoded f (zeros 824)).0
 
   pub basic_malformed : is_payload (decoded f (zeros 1)).0 ≡ false → made_basic f ≡ malformed
-  unfolding made_basic basic
-  basic_malformed e = ap (λ (x : (Result ℕ KissError)). basic x (decoded f (zeros 824)).1) (no_payload (decoded f (zeros 824)).0 (any_room f (zeros 824) (zeros 1) ∙ e))
+  unfolding made_basic
+  basic_malformed e = no_payload (decoded f (zeros 824)).0 (decoded f (zeros 824)).1 (any_room f (zeros 824) (zeros 1) ∙ e)
 
   module _ (e : is_payload (decoded f (zeros 1)).0 ≡ true) where
     holds : made_basic f ≡ basic (Ok count) (decoded f (zeros 824)).1
     unfolding made_basic
-    holds = ap (λ (x : (Result ℕ KissError)). basic x (decoded f (zeros 824)).1) (some_payload (decoded f (zeros 824)).0 (any_room f (zeros 824) (zeros 1) ∙ e))
+    holds = ap (λ (x : Result ℕ KissError). basic x (decoded f (zeros 824)).1) (some_payload (decoded f (zeros 824)).0 (any_room f (zeros 824) (zeros 1) ∙ e))
 
     pub basic_overlong : 822 < count → made_basic f ≡ overlong
     unfolding basic pick

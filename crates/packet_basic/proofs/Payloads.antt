@@ -5,20 +5,21 @@ use mathlib.Core.Bool.{true, false, false≢true}
 use mathlib.Core.List.{List, [], ◌∷◌}
 use mathlib.Core.Option.{Option, none, some}
 use Rattle.std.specs.Prelude.{Err, Result, ℕ, Ok}
-use Rattle.kiss_layout.specs.declared.KissError.TheVariants.{MalformedKissFrame}
 use Rattle.kiss_layout.specs.declared.KissError.{KissError}
 use Rattle.kiss_layout.specs.Scan.{stretch, after_fends}
 use Rattle.kiss_layout.specs.Read.{content_in, payload_at, decoded}
+use Rattle.packets.specs.Queue.{malformed, basic}
 use Rattle.packets.specs.Inside.{count_of}
 use Rattle.packet_basic.specs.Inside.{is_payload}
 
-pub no_payload : (x : (Result ℕ KissError)) → is_payload x ≡ false → x ≡ (Err MalformedKissFrame)
-no_payload (Ok n) e = absurd (false≢true (sym e))
-no_payload (Err MalformedKissFrame) e = refl
+pub no_payload : (x : Result ℕ KissError) (d : List ℕ) → is_payload x ≡ false → basic x d ≡ malformed
+unfolding basic
+no_payload (Ok n) d f = absurd (false≢true (sym f))
+no_payload (Err e) d f = refl
 
-pub some_payload : (x : (Result ℕ KissError)) → is_payload x ≡ true → x ≡ Ok (count_of x)
-some_payload (Ok n) e = refl
-some_payload (Err MalformedKissFrame) e = absurd (false≢true e)
+pub some_payload : (x : Result ℕ KissError) → is_payload x ≡ true → x ≡ Ok (count_of x)
+some_payload (Ok n) f = refl
+some_payload (Err e) f = absurd (false≢true f)
 
 -- whether there is a payload does not depend on the room
 pub any_room : (f d e : List ℕ) → is_payload (decoded f d).0 ≡ is_payload (decoded f e).0

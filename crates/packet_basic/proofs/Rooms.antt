@@ -101,13 +101,13 @@ module _ (s : List ℕ) (at : ℕ) (fits : at + ROOM ≤ length s) where
         ∙ sets_behind (zeros 31) (zeros 824) 0 v
         ∙ ap (λ (x : List ℕ). zeros 31 ++ x) (put_all (zeros 824) v (omega (arith, length-zeros 824))))
 
-    pub decoded-at : (f : List ℕ) {x y : (Result ℕ KissError)} {v : List ℕ} → (x, v) ≡ decoded f (mid_of (at + 31) (at + ROOM - (at + 31)) s₁) → x ≡ y
+    pub decoded-at : (f : List ℕ) {x y : Result ℕ KissError} {v : List ℕ} → (x, v) ≡ decoded f (mid_of (at + 31) (at + ROOM - (at + 31)) s₁) → x ≡ y
         → (count_of y, put_mid (at + 31) (at + ROOM - (at + 31)) s₁ v) ≡ decoded_at f s at
     unfolding decoded_at
     decoded-at f {x} {y} {v} p e =
         let q = p ∙ ap (decoded f) lent in
         let l : length v ≡ 824 = ap (λ (z : Result ℕ KissError × List ℕ). length z.1) q ∙ (in_room f (zeros 824)).0 ∙ length-zeros 824 in
-        ap (λ (z : (Result ℕ KissError)). (count_of z, put_mid (at + 31) (at + ROOM - (at + 31)) s₁ v)) (sym e)
+        ap (λ (z : Result ℕ KissError). (count_of z, put_mid (at + 31) (at + ROOM - (at + 31)) s₁ v)) (sym e)
         ∙ ap (λ (z : List ℕ). (count_of x, z)) (back v l)
         ∙ ap (λ (z : Result ℕ KissError × List ℕ). (count_of z.0, placed (zeros 31 ++ z.1) s at)) q
 
@@ -188,7 +188,7 @@ module _ (f s : List ℕ) (at : ℕ) {n : ℕ} {s₁ : List ℕ} (e : (n, s₁) 
     decoded-keeps = ap length decoded-left ∙ placed-length (zeros 31 ++ (decoded f (zeros 824)).1) s at (omega (arith, long))
 
     -- too long: cleared again
-    pub cleared_again : {a : (Result (Unit {0}) NoRoom)} {s₂ : List ℕ} → (a, s₂) ≡ copied (replicate ROOM 0) s₁ at → s₂ ≡ placed (zeros ROOM) s at
+    pub cleared_again : {a : Result (Unit {0}) NoRoom} {s₂ : List ℕ} → (a, s₂) ≡ copied (replicate ROOM 0) s₁ at → s₂ ≡ placed (zeros ROOM) s at
     unfolding zeros
     cleared_again p =
         let r = zeros 31 ++ (decoded f (zeros 824)).1 in

@@ -8,17 +8,16 @@ use Rattle.choice.specs.Pick.{pick, and}
 use Rattle.crc.specs.Crc.{crc_of}
 use Rattle.std.specs.Prelude.{Result, ℕ, Err, Ok}
 use Rattle.kiss_layout.specs.declared.KissError.{KissError}
-use Rattle.kiss_layout.specs.declared.KissError.TheVariants.{MalformedKissFrame as NoPayload}
 use Rattle.kiss_layout.specs.Read.{decoded}
 use Rattle.packets.specs.Frames.{zeros}
 use Rattle.packets.specs.Queue.{ROOM, malformed, unfit, fills, full, made_full}
 
-module _ (f : List ℕ) {x : (Result ℕ KissError)} {d : List ℕ} (e : (x, d) ≡ decoded f (zeros ROOM)) where
-  read_full : {y : (Result ℕ KissError)} → x ≡ y → made_full f ≡ full y d
+module _ (f : List ℕ) {x : Result ℕ KissError} {d : List ℕ} (e : (x, d) ≡ decoded f (zeros ROOM)) where
+  read_full : {y : Result ℕ KissError} → x ≡ y → made_full f ≡ full y d
   unfolding made_full
-  read_full p = ap (λ (z : Result ℕ KissError × List ℕ). full z.0 z.1) (sym e) ∙ ap (λ (z : (Result ℕ KissError)). full z d) p
+  read_full p = ap (λ (z : Result ℕ KissError × List ℕ). full z.0 z.1) (sym e) ∙ ap (λ (z : Result ℕ KissError). full z d) p
 
-  pub full_malformed : x ≡ (Err NoPayload) → made_full f ≡ malformed
+  pub full_malformed : {k : KissError} → x ≡ Err k → made_full f ≡ malformed
   unfolding full
   full_malformed p = read_full p
 

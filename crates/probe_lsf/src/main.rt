@@ -75,75 +75,42 @@ fn ask(kind: u8, v: u8, bytes: [u8; 30], lich: LichCollection) -> Session {
     if kind < 21 {
         return told(lich, lsf_number(kind, f), [0u8; 30]);
     }
-    let after = lsf_set(kind, v, f);
-    let out = after.0;
-    told(lich, 0, out)
+    told(lich, 0, lsf_set(kind, v, f).0)
 }
 
 fn lsf_number(kind: u8, f: LsfFrame) -> usize {
-    match kind {
-        16 => return lsf_frame::check_crc(f) as usize,
-        17 => match lsf_frame::mode(f) {
-            Mode::Packet => return 0,
-            Mode::Stream => return 1,
-        },
-        18 => match lsf_fields::data_type(f) {
-            DataType::Reserved => return 0,
-            DataType::Data => return 1,
-            DataType::Voice => return 2,
-            DataType::VoiceAndData => return 3,
-        },
-        19 => match lsf_fields::encryption_type(f) {
-            EncryptionType::None => return 0,
-            EncryptionType::Scrambler => return 1,
-            EncryptionType::Aes => return 2,
-            EncryptionType::Other => return 3,
-        },
-        _ => return lsf_fields::channel_access_number(f) as usize,
-    }
+    usize::from(match kind {
+        16 => lsf_frame::check_crc(f),
+        17 => u16::from(lsf_frame::mode(f)),
+        18 => u16::from(lsf_fields::data_type(f)),
+        19 => u16::from(lsf_fields::encryption_type(f)),
+        _ => u16::from(lsf_fields::channel_access_number(f)),
+    })
 }
 
+// A value over a kind's last number stands for the last.
 fn lsf_set(kind: u8, v: u8, f: LsfFrame) -> LsfFrame {
+    let n = u16::from(v);
     match kind {
-        21 => return LsfFrame(meta(f)),
-        22 => return lsf_setters::set_mode(f, mode(v)),
-        23 => return lsf_setters::set_data_type(f, data_type(v)),
-        24 => return lsf_setters::set_encryption_type(f, encryption(v)),
-        25 => return lsf_setters::set_channel_access_number(f, v),
-        _ => return lsf_frame::packet_basic(),
+        21 => LsfFrame(meta(f)),
+        22 => lsf_setters::set_mode(f, Mode::try_from(n).unwrap_or(Mode::Stream)),
+        23 => lsf_setters::set_data_type(
+            f,
+            DataType::try_from(n).unwrap_or(DataType::VoiceAndData),
+        ),
+        24 => lsf_setters::set_encryption_type(
+            f,
+            EncryptionType::try_from(n).unwrap_or(EncryptionType::Other),
+        ),
+        25 => lsf_setters::set_channel_access_number(f, v),
+        _ => lsf_frame::packet_basic(),
     }
 }
 
 fn meta(f: LsfFrame) -> [u8; 30] {
-    let field = lsf_fields::meta(f);
     let mut bytes = [0u8; 30];
-    store::copy_in(&field, &mut bytes, 0);
+    bytes[..14].copy_from_slice(&lsf_fields::meta(f));
     bytes
-}
-
-fn mode(v: u8) -> Mode {
-    match v {
-        0 => Mode::Packet,
-        _ => Mode::Stream,
-    }
-}
-
-fn data_type(v: u8) -> DataType {
-    match v {
-        0 => DataType::Reserved,
-        1 => DataType::Data,
-        2 => DataType::Voice,
-        _ => DataType::VoiceAndData,
-    }
-}
-
-fn encryption(v: u8) -> EncryptionType {
-    match v {
-        0 => EncryptionType::None,
-        1 => EncryptionType::Scrambler,
-        2 => EncryptionType::Aes,
-        _ => EncryptionType::Other,
-    }
 }
 
 // A new collection, a segment set, how many were heard, or the LSF, with value 30, where all were.

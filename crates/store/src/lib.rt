@@ -1,12 +1,10 @@
 // Bytes put into a store that the caller lends.
 #![tactic(auto)]
 
-ghost use Rattle.std.specs.Prelude.{◌≡◌, ◌+◌, ◌≤◌, length};
-ghost use Rattle.std.proofs.lemmas.List.Edits.{sets};
+ghost use Rattle.std.specs.Prelude.{◌≡◌};
 ghost use Rattle.room.specs.Room.{copied};
 
 use room::NoRoom;
-
 
 // Puts src into dst from index at on. Where it does not fit, dst is left as it is.
 pub fn copy_in(src: &[u8], dst: &mut [u8], at: usize) -> Result<(), NoRoom>
@@ -18,17 +16,6 @@ pub fn copy_in(src: &[u8], dst: &mut [u8], at: usize) -> Result<(), NoRoom>
     if dst.len() - at < src.len() {
         return Err(NoRoom);
     }
-    put(src, dst, at);
+    dst[at..at + src.len()].copy_from_slice(src);
     Ok(())
-}
-
-fn put(src: &[u8], dst: &mut [u8], at: usize)
-    requires { at + length src.now ≤ length dst.old }
-    ensures { dst.new ≡ sets dst.old at src.now }
-{
-    let mut i = 0;
-    while i < src.len() {
-        dst[at + i] = src[i];
-        i += 1;
-    }
 }

@@ -9,7 +9,7 @@ ghost use Rattle.tnc_air.specs.Collected.{collected_at};
 
 use kiss_build::new_full_packet;
 use protocol::{PacketFrame, PacketFrameCounter};
-use radio::{AirError, Heard, Hears, RX_STORE_LEN, Radio};
+use radio::{AirError, Heard, RX_STORE_LEN, Radio};
 use radio_hears::hears;
 use radio_told::told;
 use state::{Reception, State};

@@ -9,7 +9,7 @@ use Rattle.choice.specs.Pick.{pick_all, and_fst, and_snd, and_both}
 use Rattle.channel.specs.declared.Channel.{Channel}
 use Rattle.std.specs.Prelude.{Result, Ok, Err}
 use Rattle.channel.specs.declared.ChannelError.{ChannelError}
-use Rattle.channel.specs.declared.ChannelError.TheVariants.{OutOfRange, OutOfBounds as NotSet}
+use Rattle.channel.specs.declared.ChannelError.TheVariants.{OutOfRange, OutOfBounds}
 use Rattle.channel.specs.Access.{sound_channel, clock_set, set_number}
 use Rattle.channel.proofs.Kept as channels
 use Rattle.channel.proofs.Bounds.{clock_bound}
@@ -37,8 +37,7 @@ its_state t e = and_fst _ _ (parts t e).its_radio
 
 clock_sound : (a : (Result (Unit {0}) ChannelError)) (t : Tnc) (c : Channel) (n : ℕ) → sound_tnc t ≡ true → sound_channel c ≡ true → BothSound (on_clock a t c n)
 clock_sound (Ok tt) t c n e s = record { its_tnc = state_sound t (time_reached t.radio.state n) e (states.sound_at_time t.radio.state n (its_state t e)); its_channel = s }
-clock_sound (Err OutOfRange) t c n e s = record { its_tnc = e; its_channel = s }
-clock_sound (Err NotSet) t c n e s = record { its_tnc = e; its_channel = s }
+clock_sound (Err x) t c n e s = record { its_tnc = e; its_channel = s }
 
 now_sound : (t : Tnc) (c : Channel) (n : ℕ) → sound_tnc t ≡ true → sound_channel c ≡ true → BothSound (now_set t c n)
 unfolding now_set
@@ -59,7 +58,7 @@ end_sound t c n e s =
           (states.sound_ending_at t.radio.state (c.clock + n) (omega (arith, clock_bound c s, leb-true n FARTHEST w)) (its_state t e));
       its_channel = s;
     })
-    (λ w. same (Err OutOfRange))) (λ v. same (Err NotSet))) (λ u. same (Err NotSet))
+    (λ w. same (Err OutOfRange))) (λ v. same (Err OutOfBounds))) (λ u. same (Err OutOfBounds))
 
 pub sound_stays_sound : SoundStaysSound
 sound_stays_sound t c n e s = (now_sound t c n e s, end_sound t c n e s)
@@ -71,18 +70,17 @@ Fair t c r = (set_number r.answer ≡ 0 → ⊥) → Kept t c r
 
 clock_fair : (a : (Result (Unit {0}) ChannelError)) (t : Tnc) (c d : Channel) (n : ℕ) → ((set_number a ≡ 0 → ⊥) → d ≡ c) → Fair t c (on_clock a t d n)
 clock_fair (Ok tt) t c d n k f = absurd (f refl)
-clock_fair (Err OutOfRange) t c d n k f = record { its_tnc = refl; its_channel = k f }
-clock_fair (Err NotSet) t c d n k f = record { its_tnc = refl; its_channel = k f }
+clock_fair (Err x) t c d n k f = record { its_tnc = refl; its_channel = k f }
 
 pub refused_keeps_all : RefusedKeepsAll
 unfolding now_set end_time_set
 refused_keeps_all t c n =
     let same : (a : (Result (Unit {0}) ChannelError)) → Fair t c (timed a t c) = λ a f. record { its_tnc = refl; its_channel = refl } in (
       pick_all (Fair t c) (sound_tnc t) _ _
-          (λ u. clock_fair (clock_set c n).answer t c (clock_set c n).channel n ((channels.refused_keeps_all c).by_clock n)) (λ u. same (Err NotSet)),
+          (λ u. clock_fair (clock_set c n).answer t c (clock_set c n).channel n ((channels.refused_keeps_all c).by_clock n)) (λ u. same (Err OutOfBounds)),
       pick_all (Fair t c) (sound_tnc t) _ _
           (λ u. pick_all (Fair t c) (sound_channel c) _ _
-          (λ v. pick_all (Fair t c) (leb n FARTHEST) _ _ (λ w f. absurd (f refl)) (λ w. same (Err OutOfRange))) (λ v. same (Err NotSet))) (λ u. same (Err NotSet)),
+          (λ v. pick_all (Fair t c) (leb n FARTHEST) _ _ (λ w f. absurd (f refl)) (λ w. same (Err OutOfRange))) (λ v. same (Err OutOfBounds))) (λ u. same (Err OutOfBounds)),
     )
 
 -- ---- PTT
@@ -111,13 +109,12 @@ module _ (t : Tnc) (c : Channel) (now : ℕ) (e : sound_tnc t ≡ true) where
     λ on off. states.ptt_until_the_end t.radio.state now (sym (parts t e).its_ptt ∙ on) off,
     λ off. reached_off t.radio.state now (sym (parts t e).its_ptt ∙ off),
   )
-  clock_right (Err OutOfRange) d = same_right (Err OutOfRange) d
-  clock_right (Err NotSet) d = same_right (Err NotSet) d
+  clock_right (Err x) d = same_right (Err x) d
 
 pub ptt_until_the_end : PttUntilTheEnd
 unfolding now_set
 ptt_until_the_end t c now e =
-    let r = pick_all (Right t c now e) (sound_tnc t) _ _ (λ u. clock_right t c now e (clock_set c now).answer (clock_set c now).channel) (λ u. same_right t c now e (Err NotSet) c) in
+    let r = pick_all (Right t c now e) (sound_tnc t) _ _ (λ u. clock_right t c now e (clock_set c now).answer (clock_set c now).channel) (λ u. same_right t c now e (Err OutOfBounds) c) in
     record { goes = r.0; stays = r.1 }
 
 pub end_time_keeps_ptt : EndTimeKeepsPtt

@@ -3,7 +3,7 @@ use Rattle.std.specs.Prelude.{ℕ, ◌+◌, ◌^◌, leb, Result, Ok, Err}
 use Rattle.choice.specs.Pick.{pick}
 use Rattle.channel.specs.declared.Channel.{Channel}
 use Rattle.channel.specs.declared.ChannelError.{ChannelError}
-use Rattle.channel.specs.declared.ChannelError.TheVariants.{OutOfRange, OutOfBounds as NotSet}
+use Rattle.channel.specs.declared.ChannelError.TheVariants.{OutOfRange, OutOfBounds}
 use Rattle.channel.specs.Access.{sound_channel, clock_set}
 use Rattle.state.specs.declared.State.{State}
 use Rattle.state.specs.State.{time_reached, ending_at}
@@ -22,12 +22,11 @@ in_state r s = record { state = s; outgoing = r.outgoing }
 -- ---- the clock: a transmission whose end has come is over
 
 abbrev pub on_clock : Result (Unit {0}) ChannelError → Tnc → Channel → ℕ → Timed
-on_clock (Ok tt) t c now = timed (Ok tt) (with_state t (time_reached t.radio.state now)) c
-on_clock (Err OutOfRange) t c now = timed (Err OutOfRange) t c
-on_clock (Err NotSet) t c now = timed (Err NotSet) t c
+on_clock (Ok done) t c now = timed (Ok tt) (with_state t (time_reached t.radio.state now)) c
+on_clock (Err e) t c now = timed (Err e) t c
 
 unfoldable pub now_set : Tnc → Channel → ℕ → Timed
-now_set t c now = pick (sound_tnc t) (on_clock (clock_set c now).answer t (clock_set c now).channel now) (timed (Err NotSet) t c)
+now_set t c now = pick (sound_tnc t) (on_clock (clock_set c now).answer t (clock_set c now).channel now) (timed (Err OutOfBounds) t c)
 
 -- ---- the end of a transmission: at most 2^32 samples ahead
 
@@ -39,5 +38,5 @@ end_time_set t c ahead =
     pick (sound_tnc t)
     (pick (sound_channel c)
     (pick (leb ahead FARTHEST) (timed (Ok tt) (with_state t (ending_at t.radio.state (c.clock + ahead))) c) (timed (Err OutOfRange) t c))
-    (timed (Err NotSet) t c))
-    (timed (Err NotSet) t c)
+    (timed (Err OutOfBounds) t c))
+    (timed (Err OutOfBounds) t c)

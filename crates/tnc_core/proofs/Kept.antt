@@ -29,4 +29,4 @@ with_radio_is_sound t r e s = let p = parts t e in joined (with_radio t r) (reco
 
 pub ptt_is_the_state : PttIsTheState
 unfolding ptt_of pick
-ptt_is_the_state t e = rw e (ap (λ (b : Bool). pick {A = (Result Bool LentError)} b (Ok true) (Ok false)) (parts t e).its_ptt)
+ptt_is_the_state t e = rw e (ap Ok (parts t e).its_ptt)

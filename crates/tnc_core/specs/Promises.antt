@@ -1,6 +1,5 @@
 -- What is promised of the TNC's record, from document 01. Each is proved in proofs/Kept.antt. Assumes nothing.
 use Rattle.std.specs.Prelude.{true, false, ◌≡◌, Ok}
-use Rattle.choice.specs.Pick.{pick}
 use Rattle.packets.specs.Queue.{is_empty as no_packet}
 use Rattle.streams.specs.Queue.{empty_queue as no_stream}
 use Rattle.sending.specs.Sending.{wants_to_send}
@@ -23,4 +22,4 @@ WithRadioIsSound = (t : Tnc) (r : Radio) → sound_tnc t ≡ true → sound_radi
 
 -- PTT is on exactly in the five transmit states
 abbrev pub PttIsTheState : Type 0
-PttIsTheState = (t : Tnc) → sound_tnc t ≡ true → ptt_of t ≡ pick (transmits t.radio.state) (Ok true) (Ok false)
+PttIsTheState = (t : Tnc) → sound_tnc t ≡ true → ptt_of t ≡ Ok (transmits t.radio.state)

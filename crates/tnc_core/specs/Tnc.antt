@@ -11,6 +11,7 @@ use Rattle.state.specs.State.{transmits}
 use Rattle.radio.specs.declared.Radio.{Radio}
 use Rattle.radio.specs.Radio.{sound_radio}
 use Rattle.tnc_core.specs.declared.Tnc.{Tnc}
+use Rattle.room.specs.Room.{lent_number}
 use Rattle.room.specs.declared.LentError.{LentError}
 use Rattle.room.specs.declared.LentError.TheVariants.{OutOfBounds}
 
@@ -24,7 +25,7 @@ sound_tnc t =
     (and (sound_sending t.sending) (and (sound_radio t.radio) (pick (transmits t.radio.state) t.ptt (not t.ptt))))
 
 unfoldable pub ptt_of : Tnc → Result Bool LentError
-ptt_of t = pick (sound_tnc t) (pick t.ptt (Ok true) (Ok false)) (Err OutOfBounds)
+ptt_of t = pick (sound_tnc t) (Ok t.ptt) (Err OutOfBounds)
 
 -- with another radio, and with another state
 abbrev pub with_radio : Tnc → Radio → Tnc
@@ -35,6 +36,5 @@ with_state t s = with_radio t (record { state = s; outgoing = t.radio.outgoing }
 
 -- document 01's number of PTT's answer
 abbrev pub ptt_number : Result Bool LentError → ℕ
-ptt_number (Ok false) = 0
-ptt_number (Ok true) = 0
-ptt_number (Err OutOfBounds) = 8
+ptt_number (Ok on) = 0
+ptt_number (Err e) = lent_number e

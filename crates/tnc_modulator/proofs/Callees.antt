@@ -6,13 +6,13 @@ use mathlib.Core.Path.{◌≡◌, refl}
 use borrow.Author.Tests.{eq-eqb}
 use lib.Dec.{ltb, eqb}
 use lib.ListN.{length}
+use Rattle.std.specs.Prelude.{Ok, None}
 use Rattle.choice.specs.Pick.{pick, pick_all}
 use Rattle.channel.specs.declared.Channel.{Channel}
 use Rattle.channel.specs.declared.Accessed.{Accessed}
 use Rattle.channel.specs.Access.{sound_channel, check_later, check_due, accessed, access_number}
 use Rattle.packets.specs.declared.PacketQueue.{PacketQueue}
 use Rattle.packets.specs.declared.PacketRead.{PacketRead}
-use Rattle.packets.specs.declared.ReadAnswer.TheVariants.{Nothing}
 use Rattle.packets.specs.Queue.{STORE as PACKETS, sound_queue as sound_packets, is_empty, not_read, advanced, lsf_read, data_read, turn, walk, read_next as next_piece, read_number as piece_number}
 use Rattle.streams.specs.declared.StreamQueue.{StreamQueue}
 use Rattle.streams.specs.declared.StreamRead.{StreamRead}
@@ -55,4 +55,4 @@ walk-answered (suc n) q s =
 pub packets_answered : (q : PacketQueue) (s : List ℕ) → length s ≡ PACKETS → sound_packets q ≡ true → piece_number (next_piece q s).answer ≡ 0
 unfolding next_piece pick
 packets_answered q s l e =
-    rw (eq-eqb (length s) PACKETS l, e) (pick_all (λ (r : PacketRead). piece_number r.answer ≡ 0) (is_empty q) (not_read Nothing q) (walk 4 q s) (λ _. refl) (λ _. walk-answered 4 q s))
+    rw (eq-eqb (length s) PACKETS l, e) (pick_all (λ (r : PacketRead). piece_number r.answer ≡ 0) (is_empty q) (not_read (Ok None) q) (walk 4 q s) (λ _. refl) (λ _. walk-answered 4 q s))

@@ -6,13 +6,14 @@ use mathlib.Core.Path.{◌≡◌, refl, sym, ap, ◌∙◌}
 use borrow.Author.Tests.{eq-eqb, eqb-true}
 use lib.Dec.{eqb}
 use lib.ListN.{length}
+use Rattle.std.specs.Prelude.{Err}
 use Rattle.choice.specs.Pick.{pick, and, and_fst, and_snd}
 use Rattle.channel.specs.declared.Channel.{Channel}
 use Rattle.state.specs.declared.State.{State}
 use Rattle.state.specs.declared.Transmission.{Transmission}
 use Rattle.state.specs.State.{transmission_of}
 use Rattle.sending.specs.declared.Sending.{Sending}
-use Rattle.tx_frame.specs.declared.TxAnswer.TheVariants.{WrongStore, OutOfBounds}
+use Rattle.room.specs.declared.LentError.TheVariants.{WrongStore, OutOfBounds}
 use Rattle.tx_frame.specs.Frame.{unfilled}
 use Rattle.tnc_modulator.specs.Modulator.{PACKETS, STREAMS, all_sound, given, tx_read}
 
@@ -33,7 +34,7 @@ module _ (state : State) (sending : Sending) (channel : Channel) (packets stream
   abbrev wrong : Bool
   wrong = not (eqb (length packets) PACKETS) || not (eqb (length streams) STREAMS)
 
-  pub stores_wrong : wrong ≡ true → unfilled WrongStore state sending channel ≡ tx_read state sending channel packets streams
+  pub stores_wrong : wrong ≡ true → unfilled (Err WrongStore) state sending channel ≡ tx_read state sending channel packets streams
   unfolding tx_read pick
   stores_wrong e = rw (one_wrong (eqb (length packets) PACKETS) (eqb (length streams) STREAMS) e)
 
@@ -43,7 +44,7 @@ module _ (state : State) (sending : Sending) (channel : Channel) (packets stream
       (eqb-true (length packets) PACKETS (and_fst p s f), eqb-true (length streams) STREAMS (and_snd p s f))
 
   pub unsound : length packets ≡ PACKETS → length streams ≡ STREAMS → all_sound state sending channel ≡ false
-      → unfilled OutOfBounds state sending channel ≡ tx_read state sending channel packets streams
+      → unfilled (Err OutOfBounds) state sending channel ≡ tx_read state sending channel packets streams
   unfolding tx_read pick and
   unsound e f s = rw (eq-eqb (length packets) PACKETS e, eq-eqb (length streams) STREAMS f, s)
 

@@ -1,17 +1,15 @@
 -- The promises of specs/Promises.antt are kept. Assumes nothing.
-use Prim.Native.Nat.{ℕ, zero, suc}
+use Prim.Native.Nat.{ℕ}
 use mathlib.Core.Bool.{Bool, true, false, false≢true}
-use mathlib.Core.List.{List}
 use mathlib.Core.Logic.{◌≢◌}
 use mathlib.Core.Path.{◌≡◌, refl, sym, ap, ◌∙◌}
 use native.Mathlib.Omega.{arith}
 use Rattle.choice.specs.Pick.{pick, pick_all, and_both}
 use Rattle.channel.specs.declared.Channel.{Channel}
-use Rattle.std.specs.Prelude.{Ok, Result, Err}
+use Rattle.std.specs.Prelude.{Result, Ok, Err, Option, Some, None}
 use Rattle.channel.specs.declared.Access.TheVariants.{Sends, Waits}
 use Rattle.channel.specs.declared.Access.{Access}
 use Rattle.channel.specs.declared.ChannelError.{ChannelError}
-use Rattle.channel.specs.declared.ChannelError.TheVariants.{OutOfBounds as NoAccess}
 use Rattle.channel.specs.Access.{sound_channel, accessed}
 use Rattle.channel.proofs.Kept.{sound_stays_sound as channel_sound, carrier_holds_back as carrier_holds}
 use Rattle.state.specs.declared.State.{State}
@@ -19,110 +17,59 @@ use Rattle.state.specs.declared.State.TheVariants.{TxStream, TxStreamSentEndOfSt
 use Rattle.state.specs.declared.Transmission.{Transmission}
 use Rattle.state.specs.declared.Transmission.TheVariants.{Stream as InStream, StreamSent, Ending}
 use Rattle.state.specs.State.{transmits, transmission_of, sound_state}
-use Rattle.packets.specs.declared.PacketQueue.{PacketQueue}
 use Rattle.packets.specs.declared.PacketRead.{PacketRead}
-use Rattle.packets.specs.declared.ReadAnswer.{ReadAnswer}
-use Rattle.packets.specs.declared.ReadAnswer.TheVariants.{Nothing as NoPiece, Lsf as PacketLsf, Packet as Piece, End, WrongStore as NoPacketStore, OutOfBounds as NoPacketState}
-use Rattle.packets.specs.Queue.{is_empty, advanced, lsf_read as packet_lsf, data_read, turn, walk, read_next as next_piece, read_number as piece_number}
-use Rattle.packets.proofs.Kept.{sound_stays_sound as packets_sound}
+use Rattle.room.specs.declared.LentError.{LentError}
+use Rattle.protocol.specs.declared.StreamFrame.{StreamFrame}
+use Rattle.protocol.specs.declared.ModulatorFrame.{ModulatorFrame}
+use Rattle.protocol.specs.declared.ModulatorFrame.TheVariants.{Preamble, Lsf, Stream, Packet, EndOfTransmission}
+use Rattle.packets.specs.Promises.{of_packets}
+use Rattle.streams.specs.Promises.{of_streams}
+use Rattle.packets.specs.Queue.{is_empty, read_next as next_piece, read_number as piece_number}
+use Rattle.packets.proofs.Kept.{gives_packets, sound_stays_sound as packets_sound}
 use Rattle.streams.specs.declared.StreamRead.{StreamRead}
-use Rattle.streams.specs.declared.StreamReadAnswer.{StreamReadAnswer}
-use Rattle.streams.specs.declared.StreamReadAnswer.TheVariants.{Nothing as NoFrame, Lsf as StreamLsf, Frame, WrongStore as NoStreamStore, OutOfBounds as NoStreamState}
-use Rattle.streams.specs.Queue.{lsf_read as stream_lsf, frame_read, read_next as next_frame, read_number as frame_number}
-use Rattle.streams.proofs.Outcomes.{nothing, no_store, no_state, Read, silent, lsf_given, frame_given, read_outcome}
-use Rattle.streams.proofs.Kept.{sound_stays_sound as streams_sound}
+use Rattle.streams.specs.Queue.{read_next as next_frame, read_number as frame_number}
+use Rattle.streams.proofs.Kept.{gives_streams, sound_stays_sound as streams_sound}
 use Rattle.sending.specs.declared.Sending.{Sending}
 use Rattle.sending.specs.Sending.{sound_sending, wants_to_send}
-use Rattle.tx_frame.specs.declared.TxAnswer.{TxAnswer}
-use Rattle.tx_frame.specs.declared.TxAnswer.TheVariants.{Nothing, Preamble, Stream, EndOfTransmission}
 use Rattle.tx_frame.specs.declared.TxRead.{TxRead}
 use Rattle.tx_begin.specs.Begin.{keyed_up}
-use Rattle.tx_stream.specs.Stream.{stream_answer, after_stream, with_streams, stream_read, stream_given}
-use Rattle.tx_packet.specs.Packet.{packet_answer, after_packet, with_packets, packet_read}
+use Rattle.tx_stream.specs.Stream.{after_stream, with_streams, stream_given}
+use Rattle.tx_packet.specs.Packet.{after_packet, with_packets}
 use Rattle.tnc_modulator.specs.Modulator.{all_sound, given, tx_number, kind_number}
-use Rattle.tnc_modulator.specs.Promises.{Box, read_of, afterwards, after_read, RefusedKeepsAll, Sound, SoundIsAnswered, SoundStaysSound, PttFollows, PreambleHasTheDelay, CarrierHoldsBack, KeysUp, NothingToSendKeysNothing, LsfBeforePackets, PacketsBegin, Spent, stream_spent, packets_spent, EndOnlyWhenSpent, EndAfterTheLast, NothingAfterTheEnd, QueuesStand, only, UnusedIsZero}
+use Rattle.tnc_modulator.specs.Promises.{Box, read_of, afterwards, after_read, RefusedKeepsAll, Sound, SoundIsAnswered, SoundStaysSound, PttFollows, PreambleHasTheDelay, CarrierHoldsBack, KeysUp, NothingToSendKeysNothing, LsfBeforePackets, PacketsBegin, Spent, stream_spent, packets_spent, EndOnlyWhenSpent, EndAfterTheLast, NothingAfterTheEnd, QueuesStand}
 use Rattle.tnc_modulator.proofs.Cases.{passed as tested}
 use Rattle.tnc_modulator.proofs.Outcomes.{sound_state_lem, sound_sending_lem, sound_packets_lem, sound_streams_lem, sound_channel_lem, Passed, none_waits, held_back, is_keyed_up, in_stream, stream_over, is_in_packets, ending, Refusal, wrong_store, out_of_bounds, Given, refused, passed, sound_outcome, outcome}
 
 -- ---- the answers of the two queues, told apart
 
-stream-number : (a : StreamReadAnswer) → tx_number (stream_answer a) ≡ frame_number a
-stream-number NoFrame = refl
-stream-number StreamLsf = refl
-stream-number Frame = refl
-stream-number NoStreamStore = refl
-stream-number NoStreamState = refl
+stream-number : (a : Result (Option ModulatorFrame) LentError) → tx_number a ≡ frame_number a
+stream-number (Ok frame) = refl
+stream-number (Err e) = refl
 
-stream_no_preamble : (a : StreamReadAnswer) → stream_answer a ≢ Preamble
-stream_no_preamble NoFrame e = omega (arith, ap kind_number e)
-stream_no_preamble StreamLsf e = omega (arith, ap kind_number e)
-stream_no_preamble Frame e = omega (arith, ap kind_number e)
-stream_no_preamble NoStreamStore e = omega (arith, ap kind_number e)
-stream_no_preamble NoStreamState e = omega (arith, ap kind_number e)
-
-stream_no_end : (a : StreamReadAnswer) → stream_answer a ≢ EndOfTransmission
-stream_no_end NoFrame e = omega (arith, ap kind_number e)
-stream_no_end StreamLsf e = omega (arith, ap kind_number e)
-stream_no_end Frame e = omega (arith, ap kind_number e)
-stream_no_end NoStreamStore e = omega (arith, ap kind_number e)
-stream_no_end NoStreamState e = omega (arith, ap kind_number e)
-
-stream-frame : (a : StreamReadAnswer) (last : Bool) → stream_answer a ≡ Stream → after_stream a last ≡ pick last TxStreamSentEndOfStream TxStream
-stream-frame NoFrame last e = absurd (omega (arith, ap kind_number e))
-stream-frame StreamLsf last e = absurd (omega (arith, ap kind_number e))
-stream-frame Frame last e = refl
-stream-frame NoStreamStore last e = absurd (omega (arith, ap kind_number e))
-stream-frame NoStreamState last e = absurd (omega (arith, ap kind_number e))
+packet_number : (a : Result (Option ModulatorFrame) LentError) → tx_number a ≡ piece_number a
+packet_number (Ok frame) = refl
+packet_number (Err e) = refl
 
 -- what holds of both states that a stream transmission may be left in
-stream_states : (P : State → Type 0) → P TxStream → P TxStreamSentEndOfStream → (a : StreamReadAnswer) (last : Bool) → P (after_stream a last)
-stream_states P p q NoFrame last = p
-stream_states P p q StreamLsf last = p
-stream_states P p q Frame last = pick_all P last TxStreamSentEndOfStream TxStream (λ _. q) (λ _. p)
-stream_states P p q NoStreamStore last = p
-stream_states P p q NoStreamState last = p
+stream_states : (P : State → Type 0) → P TxStream → P TxStreamSentEndOfStream → (a : Result (Option ModulatorFrame) LentError) → P (after_stream a)
+stream_states P p q (Ok None) = p
+stream_states P p q (Ok (Some (Preamble delay))) = p
+stream_states P p q (Ok (Some (Lsf lsf))) = p
+stream_states P p q (Ok (Some (Stream frame))) = pick_all P frame.end_of_stream TxStreamSentEndOfStream TxStream (λ _. q) (λ _. p)
+stream_states P p q (Ok (Some (Packet frame))) = p
+stream_states P p q (Ok (Some EndOfTransmission)) = p
+stream_states P p q (Err e) = p
 
-packet_number : (a : ReadAnswer) → tx_number (packet_answer a) ≡ piece_number a
-packet_number NoPiece = refl
-packet_number PacketLsf = refl
-packet_number Piece = refl
-packet_number End = refl
-packet_number NoPacketStore = refl
-packet_number NoPacketState = refl
+packet_states : (P : State → Type 0) → P TxPacket → P TxEnding → (a : Result (Option ModulatorFrame) LentError) → P (after_packet a)
+packet_states P p q (Ok None) = p
+packet_states P p q (Ok (Some (Preamble delay))) = p
+packet_states P p q (Ok (Some (Lsf lsf))) = p
+packet_states P p q (Ok (Some (Stream frame))) = p
+packet_states P p q (Ok (Some (Packet frame))) = p
+packet_states P p q (Ok (Some EndOfTransmission)) = q
+packet_states P p q (Err e) = p
 
-packet_no_preamble : (a : ReadAnswer) → packet_answer a ≢ Preamble
-packet_no_preamble NoPiece e = omega (arith, ap kind_number e)
-packet_no_preamble PacketLsf e = omega (arith, ap kind_number e)
-packet_no_preamble Piece e = omega (arith, ap kind_number e)
-packet_no_preamble End e = omega (arith, ap kind_number e)
-packet_no_preamble NoPacketStore e = omega (arith, ap kind_number e)
-packet_no_preamble NoPacketState e = omega (arith, ap kind_number e)
-
-packet_no_stream : (a : ReadAnswer) → packet_answer a ≢ Stream
-packet_no_stream NoPiece e = omega (arith, ap kind_number e)
-packet_no_stream PacketLsf e = omega (arith, ap kind_number e)
-packet_no_stream Piece e = omega (arith, ap kind_number e)
-packet_no_stream End e = omega (arith, ap kind_number e)
-packet_no_stream NoPacketStore e = omega (arith, ap kind_number e)
-packet_no_stream NoPacketState e = omega (arith, ap kind_number e)
-
-packet_end : (a : ReadAnswer) → packet_answer a ≡ EndOfTransmission → (a ≡ End) × (after_packet a ≡ TxEnding)
-packet_end NoPiece e = absurd (omega (arith, ap kind_number e))
-packet_end PacketLsf e = absurd (omega (arith, ap kind_number e))
-packet_end Piece e = absurd (omega (arith, ap kind_number e))
-packet_end End e = (refl, refl)
-packet_end NoPacketStore e = absurd (omega (arith, ap kind_number e))
-packet_end NoPacketState e = absurd (omega (arith, ap kind_number e))
-
-packet_states : (P : State → Type 0) → P TxPacket → P TxEnding → (a : ReadAnswer) → P (after_packet a)
-packet_states P p q NoPiece = p
-packet_states P p q PacketLsf = p
-packet_states P p q Piece = p
-packet_states P p q End = q
-packet_states P p q NoPacketStore = p
-packet_states P p q NoPacketState = p
-
-refusal_kind : {a : TxAnswer} → Refusal a → kind_number a ≡ 0
+refusal_kind : {a : Result (Option ModulatorFrame) LentError} → Refusal a → kind_number a ≡ 0
 refusal_kind wrong_store = refl
 refusal_kind out_of_bounds = refl
 
@@ -132,6 +79,13 @@ frame_of x = next_frame x.sending.streams x.streams
 
 abbrev piece_of : Box → PacketRead
 piece_of x = next_piece x.sending.packets x.packets
+
+-- neither gives what is not of its transmission
+no_stream_frame : (x : Box) (f : ModulatorFrame) → of_streams f ≡ false → (frame_of x).answer ≢ Ok (Some f)
+no_stream_frame x f n e = false≢true (sym n ∙ gives_streams (record { queue = x.sending.streams; store = x.streams }) f e)
+
+no_packet_frame : (x : Box) (f : ModulatorFrame) → of_packets f ≡ false → (piece_of x).answer ≢ Ok (Some f)
+no_packet_frame x f n e = false≢true (sym n ∙ gives_packets x.sending.packets x.packets f e)
 
 -- PTT is on in one state and off in the same
 both : {A : Type 0} {b : Bool} → b ≡ true → b ≡ false → A
@@ -211,7 +165,7 @@ module _ (x : Box) (h : Sound x) where
       all_sound_lem (keyed_up q (accessed x.channel).channel).state q (accessed x.channel).channel (pick_all (λ (s : State). sound_state s ≡ true) q.streams.pending TxStream TxPacket (λ _. refl) (λ _. refl))
       (sound_sending_lem x.state q x.channel h.its_state) access_sound
   passed_sound (in_stream e n) =
-      all_sound_lem (after_stream (frame_of x).answer (frame_of x).frame.end_of_stream) (with_streams q (frame_of x).queue) x.channel (stream_states (λ s. sound_state s ≡ true) refl refl (frame_of x).answer (frame_of x).frame.end_of_stream) stream_sound (sound_channel_lem x.state q x.channel h.its_state)
+      all_sound_lem (after_stream (frame_of x).answer) (with_streams q (frame_of x).queue) x.channel (stream_states (λ s. sound_state s ≡ true) refl refl (frame_of x).answer) stream_sound (sound_channel_lem x.state q x.channel h.its_state)
   passed_sound (stream_over e) = all_sound_lem TxEnding q x.channel refl (sound_sending_lem x.state q x.channel h.its_state) (sound_channel_lem x.state q x.channel h.its_state)
   passed_sound (is_in_packets e n) =
       all_sound_lem (after_packet (piece_of x).answer) (with_packets q (piece_of x).queue) x.channel (packet_states (λ s. sound_state s ≡ true) refl refl (piece_of x).answer) packet_sound (sound_channel_lem x.state q x.channel h.its_state)
@@ -229,14 +183,14 @@ module _ (x : Box) where
     pub leave : (accessed x.channel).answer ≡ (Ok Sends)
     pub is : r ≡ keyed_up x.sending (accessed x.channel).channel
 
-  begins : {r : TxRead} → Reads x r → r.answer ≡ Preamble → Begins r
+  begins : {delay : ℕ} {r : TxRead} → Reads x r → r.answer ≡ Ok (Some (Preamble delay)) → Begins r
   begins (refused w) e = absurd (omega (arith, refusal_kind w, ap kind_number e))
   begins (passed (none_waits off w)) e = absurd (omega (arith, ap kind_number e))
   begins (passed (held_back off w a)) e = absurd (omega (arith, ap kind_number e))
   begins (passed (is_keyed_up off w a)) e = record { off = off; leave = a; is = refl }
-  begins (passed (in_stream f n)) e = absurd (stream_no_preamble (frame_of x).answer e)
+  begins {delay} (passed (in_stream f n)) e = absurd (no_stream_frame x (Preamble delay) refl e)
   begins (passed (stream_over f)) e = absurd (omega (arith, ap kind_number e))
-  begins (passed (is_in_packets f n)) e = absurd (packet_no_preamble (piece_of x).answer e)
+  begins {delay} (passed (is_in_packets f n)) e = absurd (no_packet_frame x (Preamble delay) refl e)
   begins (passed (ending on)) e = absurd (omega (arith, ap kind_number e))
 
   key_on : transmits (keyed_up x.sending (accessed x.channel).channel).state ≡ true
@@ -248,12 +202,12 @@ module _ (x : Box) where
   ptt_stays (passed (none_waits off w)) on = on
   ptt_stays (passed (held_back off w a)) on = on
   ptt_stays (passed (is_keyed_up off w a)) on = key_on
-  ptt_stays (passed (in_stream f n)) on = stream_states (λ s. transmits s ≡ true) refl refl (frame_of x).answer (frame_of x).frame.end_of_stream
+  ptt_stays (passed (in_stream f n)) on = stream_states (λ s. transmits s ≡ true) refl refl (frame_of x).answer
   ptt_stays (passed (stream_over f)) on = refl
   ptt_stays (passed (is_in_packets f n)) on = packet_states (λ s. transmits s ≡ true) refl refl (piece_of x).answer
   ptt_stays (passed (ending now)) on = on
 
-  ptt_comes : {r : TxRead} → Reads x r → transmits x.state ≡ false → transmits r.state ≡ true → r.answer ≡ Preamble
+  ptt_comes : {r : TxRead} → Reads x r → transmits x.state ≡ false → transmits r.state ≡ true → r.answer ≡ Ok (Some (Preamble x.sending.tx_delay))
   unfolding keyed_up
   ptt_comes (refused w) off on = both on off
   ptt_comes (passed (none_waits o w)) off on = both on off
@@ -269,34 +223,44 @@ ptt_follows x =
     record {
       stays = ptt_stays x (its_outcome x);
       comes = ptt_comes x (its_outcome x);
-      keyed = λ e. let b = begins x (its_outcome x) e in (b.off, ap (λ (r : TxRead). transmits r.state) b.is ∙ key_on x);
+      keyed = λ delay e. let b = begins x (its_outcome x) e in (b.off, ap (λ (r : TxRead). transmits r.state) b.is ∙ key_on x);
     }
 
+-- the delay of a preamble
+delay_of : Result (Option ModulatorFrame) LentError → ℕ
+delay_of (Ok (Some (Preamble delay))) = delay
+delay_of (Ok (Some (Lsf lsf))) = 0
+delay_of (Ok (Some (Stream frame))) = 0
+delay_of (Ok (Some (Packet frame))) = 0
+delay_of (Ok (Some EndOfTransmission)) = 0
+delay_of (Ok None) = 0
+delay_of (Err e) = 0
+
 pub preamble_has_the_delay : PreambleHasTheDelay
-unfolding keyed_up
-preamble_has_the_delay x e = ap (λ (r : TxRead). r.tx_delay) (begins x (its_outcome x) e).is
+unfolding keyed_up delay_of
+preamble_has_the_delay x delay e = ap delay_of (sym e ∙ ap (λ (r : TxRead). r.answer) (begins x (its_outcome x) e).is)
 
 pub carrier_holds_back : CarrierHoldsBack
-carrier_holds_back x on d e = carrier_holds x.channel on d (begins x (its_outcome x) e).leave
+carrier_holds_back x on d delay e = carrier_holds x.channel on d (begins x (its_outcome x) e).leave
 
 pub lsf_before_packets : LsfBeforePackets
 unfolding keyed_up pick
-lsf_before_packets x p e = ap (λ (r : TxRead). r.state) (begins x (its_outcome x) e).is ∙ ap (λ (b : Bool). pick b TxStream TxPacket) p
+lsf_before_packets x p delay e = ap (λ (r : TxRead). r.state) (begins x (its_outcome x) e).is ∙ ap (λ (b : Bool). pick b TxStream TxPacket) p
 
 pub packets_begin : PacketsBegin
 unfolding keyed_up pick
-packets_begin x p e = ap (λ (r : TxRead). r.state) (begins x (its_outcome x) e).is ∙ ap (λ (b : Bool). pick b TxStream TxPacket) p
+packets_begin x p delay e = ap (λ (r : TxRead). r.state) (begins x (its_outcome x) e).is ∙ ap (λ (b : Bool). pick b TxStream TxPacket) p
 
 may : Result Access ChannelError → Bool
 may (Ok Sends) = true
 may (Ok Waits) = false
-may (Err NoAccess) = false
+may (Err e) = false
 
 pub keys_up : KeysUp
 unfolding keyed_up may
 keys_up x h off w a = by (sound_passed x h)
   where
-    by : {r : TxRead} → Passes x r → r.answer ≡ Preamble
+    by : {r : TxRead} → Passes x r → r.answer ≡ Ok (Some (Preamble x.sending.tx_delay))
     by (none_waits o n) = both w n
     by (held_back o n b) = both (ap may a) (ap may b)
     by (is_keyed_up o n b) = refl
@@ -312,7 +276,7 @@ none_wants q p m = rw (p, m)
 pub nothing_to_send_keys_nothing : NothingToSendKeysNothing
 nothing_to_send_keys_nothing x h off p m = by (sound_passed x h)
   where
-    by : {r : TxRead} → Passes x r → (r.answer ≡ Nothing) × (afterwards x r ≡ x)
+    by : {r : TxRead} → Passes x r → (r.answer ≡ Ok None) × (afterwards x r ≡ x)
     by (none_waits o w) = (refl, refl)
     by (held_back o w a) = both w (none_wants x.sending p m)
     by (is_keyed_up o w a) = both w (none_wants x.sending p m)
@@ -327,37 +291,36 @@ pub end_only_when_spent : EndOnlyWhenSpent
 unfolding keyed_up
 end_only_when_spent x = by (its_outcome x)
   where
-    by : {r : TxRead} → Reads x r → r.answer ≡ EndOfTransmission → Spent x × (r.state ≡ TxEnding)
+    by : {r : TxRead} → Reads x r → r.answer ≡ Ok (Some EndOfTransmission) → Spent x × (r.state ≡ TxEnding)
     by (refused w) e = absurd (omega (arith, refusal_kind w, ap kind_number e))
     by (passed (none_waits off w)) e = absurd (omega (arith, ap kind_number e))
     by (passed (held_back off w a)) e = absurd (omega (arith, ap kind_number e))
     by (passed (is_keyed_up off w a)) e = absurd (omega (arith, ap kind_number e))
-    by (passed (in_stream f n)) e = absurd (stream_no_end (frame_of x).answer e)
+    by (passed (in_stream f n)) e = absurd (no_stream_frame x EndOfTransmission refl e)
     by (passed (stream_over f)) e = (stream_spent f, refl)
-    by (passed (is_in_packets f n)) e = let b = packet_end (piece_of x).answer e in (packets_spent f b.0, b.1)
+    by (passed (is_in_packets f n)) e = (packets_spent f e, ap after_packet e)
     by (passed (ending on)) e = absurd (omega (arith, ap kind_number e))
 
 -- a stream's frame leaves the stream under way or sent
-frame_leaves : (x : Box) {r : TxRead} → Reads x r → r.answer ≡ Stream → r.state ≡ pick r.stream.end_of_stream TxStreamSentEndOfStream TxStream
+frame_leaves : (x : Box) (frame : StreamFrame) {r : TxRead} → Reads x r → r.answer ≡ Ok (Some (Stream frame)) → r.state ≡ pick frame.end_of_stream TxStreamSentEndOfStream TxStream
 unfolding keyed_up
-frame_leaves x (refused w) e = absurd (omega (arith, refusal_kind w, ap kind_number e))
-frame_leaves x (passed (none_waits off w)) e = absurd (omega (arith, ap kind_number e))
-frame_leaves x (passed (held_back off w a)) e = absurd (omega (arith, ap kind_number e))
-frame_leaves x (passed (is_keyed_up off w a)) e = absurd (omega (arith, ap kind_number e))
-frame_leaves x (passed (in_stream f n)) e =
-    stream-frame (frame_of x).answer (frame_of x).frame.end_of_stream e
-frame_leaves x (passed (stream_over f)) e = absurd (omega (arith, ap kind_number e))
-frame_leaves x (passed (is_in_packets f n)) e = absurd (packet_no_stream (piece_of x).answer e)
-frame_leaves x (passed (ending on)) e = absurd (omega (arith, ap kind_number e))
+frame_leaves x frame (refused w) e = absurd (omega (arith, refusal_kind w, ap kind_number e))
+frame_leaves x frame (passed (none_waits off w)) e = absurd (omega (arith, ap kind_number e))
+frame_leaves x frame (passed (held_back off w a)) e = absurd (omega (arith, ap kind_number e))
+frame_leaves x frame (passed (is_keyed_up off w a)) e = absurd (omega (arith, ap kind_number e))
+frame_leaves x frame (passed (in_stream f n)) e = ap after_stream e
+frame_leaves x frame (passed (stream_over f)) e = absurd (omega (arith, ap kind_number e))
+frame_leaves x frame (passed (is_in_packets f n)) e = absurd (no_packet_frame x (Stream frame) refl e)
+frame_leaves x frame (passed (ending on)) e = absurd (omega (arith, ap kind_number e))
 
 pub end_after_the_last : EndAfterTheLast
 unfolding pick stream_given
-end_after_the_last x h e =
-    let after = frame_leaves x (its_outcome x) e in let y = after_read x in let s = sound_stays_sound x h in (
+end_after_the_last x h frame e =
+    let after = frame_leaves x frame (its_outcome x) e in let y = after_read x in let s = sound_stays_sound x h in (
       λ t. let u : y.state ≡ TxStreamSentEndOfStream = after ∙ ap (λ (b : Bool). pick b TxStreamSentEndOfStream TxStream) t in
           ap (λ (r : TxRead). r.answer) (sym (sound_given y s {t = StreamSent} (ap transmission_of u))),
       λ t f. let u : y.state ≡ TxStream = after ∙ ap (λ (b : Bool). pick b TxStreamSentEndOfStream TxStream) t in
-          stream_no_end (frame_of y).answer (ap (λ (r : TxRead). r.answer) (sound_given y s {t = InStream} (ap transmission_of u)) ∙ f),
+          no_stream_frame y EndOfTransmission refl (ap (λ (r : TxRead). r.answer) (sound_given y s {t = InStream} (ap transmission_of u)) ∙ f),
     )
 
 pub nothing_after_the_end : NothingAfterTheEnd
@@ -403,46 +366,3 @@ delay_stands x (passed (ending on)) = refl
 
 pub queues_stand : QueuesStand
 queues_stand x = record { packets = packets_stand x (its_outcome x); streams = streams_stand x (its_outcome x); delay = delay_stands x (its_outcome x) }
-
--- ---- fields that the kind does not use
-
-abbrev Trim : TxRead → Type 0
-Trim r = only r.answer r ≡ r
-
-module _ (q : Sending) (c : Channel) where
-  stream_trim : {s : List ℕ} {r : StreamRead} → Read q.streams s r → Trim (stream_read q c r)
-  unfolding stream_lsf frame_read
-  stream_trim (silent nothing) = refl
-  stream_trim (silent no_store) = refl
-  stream_trim (silent no_state) = refl
-  stream_trim (lsf_given e m p) = refl
-  stream_trim (frame_given e m p) = refl
-
-  abbrev TrimPacket : PacketRead → Type 0
-  TrimPacket r = Trim (packet_read q c r)
-
-  walk_trim : (n : ℕ) (p : PacketQueue) (s : List ℕ) → TrimPacket (walk n p s)
-  unfolding walk turn packet_lsf data_read
-  walk_trim zero p s = refl
-  walk_trim (suc n) p s =
-      pick_all TrimPacket _ _ _ (λ _. refl) (λ _. pick_all TrimPacket _ _ _ (λ _. refl) (λ _. pick_all TrimPacket _ _ _ (λ _. walk_trim n (advanced p) s) (λ _. refl)))
-
-  packet_trim : (p : PacketQueue) (s : List ℕ) → TrimPacket (next_piece p s)
-  unfolding next_piece
-  packet_trim p s =
-      pick_all TrimPacket _ _ _ (λ _. pick_all TrimPacket _ _ _ (λ _. pick_all TrimPacket _ _ _ (λ _. refl) (λ _. walk_trim 4 p s)) (λ _. refl)) (λ _. refl)
-
-pub unused_is_zero : UnusedIsZero
-unfolding keyed_up
-unused_is_zero x = by (its_outcome x)
-  where
-    by : {r : TxRead} → Reads x r → Trim r
-    by (refused wrong_store) = refl
-    by (refused out_of_bounds) = refl
-    by (passed (none_waits off w)) = refl
-    by (passed (held_back off w a)) = refl
-    by (passed (is_keyed_up off w a)) = refl
-    by (passed (in_stream e n)) = stream_trim x.sending x.channel (read_outcome x.sending.streams x.streams)
-    by (passed (stream_over e)) = refl
-    by (passed (is_in_packets e n)) = packet_trim x.sending x.channel x.sending.packets x.packets
-    by (passed (ending on)) = refl

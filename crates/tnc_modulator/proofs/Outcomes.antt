@@ -9,11 +9,10 @@ use lib.Dec.{eqb}
 use lib.ListN.{length}
 use Rattle.choice.specs.Pick.{pick, and, and_fst, and_snd}
 use Rattle.channel.specs.declared.Channel.{Channel}
-use Rattle.std.specs.Prelude.{Ok, Result, Err}
+use Rattle.std.specs.Prelude.{Result, Ok, Err, Option, Some, None}
 use Rattle.channel.specs.declared.Access.TheVariants.{Waits, Sends}
 use Rattle.channel.specs.declared.Access.{Access}
 use Rattle.channel.specs.declared.ChannelError.{ChannelError}
-use Rattle.channel.specs.declared.ChannelError.TheVariants.{OutOfBounds as NoAccess}
 use Rattle.channel.specs.Access.{sound_channel, accessed, access_number}
 use Rattle.state.specs.declared.State.{State}
 use Rattle.state.specs.declared.State.TheVariants.{Idle, RxAcquiringStream, RxStream, RxPacket, TxStream, TxStreamSentEndOfStream, TxPacket, TxEnding, TxEndingAtTime}
@@ -22,8 +21,10 @@ use Rattle.packets.specs.Queue.{sound_queue as sound_packets, read_next as next_
 use Rattle.streams.specs.Queue.{sound_queue as sound_streams, read_next as next_frame, read_number as frame_number}
 use Rattle.sending.specs.declared.Sending.{Sending}
 use Rattle.sending.specs.Sending.{sound_sending, wants_to_send}
-use Rattle.tx_frame.specs.declared.TxAnswer.{TxAnswer}
-use Rattle.tx_frame.specs.declared.TxAnswer.TheVariants.{Nothing, EndOfTransmission, WrongStore, OutOfBounds}
+use Rattle.room.specs.declared.LentError.{LentError}
+use Rattle.room.specs.declared.LentError.TheVariants.{WrongStore, OutOfBounds}
+use Rattle.protocol.specs.declared.ModulatorFrame.{ModulatorFrame}
+use Rattle.protocol.specs.declared.ModulatorFrame.TheVariants.{EndOfTransmission}
 use Rattle.tx_frame.specs.declared.TxRead.{TxRead}
 use Rattle.tx_frame.specs.Frame.{unfilled}
 use Rattle.tx_begin.specs.Begin.{keyed_up, allowed, begun}
@@ -56,21 +57,21 @@ module _ (s : State) (q : Sending) (c : Channel) (e : all_sound s q c ≡ true) 
 
 -- a read behind the tests
 pub data Passed (s : State) (q : Sending) (c : Channel) (ps ss : List ℕ) : TxRead → Type 0 where
-  none_waits : transmits s ≡ false → wants_to_send q ≡ false → Passed s q c ps ss (unfilled Nothing s q c)
-  held_back : transmits s ≡ false → wants_to_send q ≡ true → (accessed c).answer ≡ (Ok Waits) → Passed s q c ps ss (unfilled Nothing s q (accessed c).channel)
+  none_waits : transmits s ≡ false → wants_to_send q ≡ false → Passed s q c ps ss (unfilled (Ok None) s q c)
+  held_back : transmits s ≡ false → wants_to_send q ≡ true → (accessed c).answer ≡ (Ok Waits) → Passed s q c ps ss (unfilled (Ok None) s q (accessed c).channel)
   is_keyed_up : transmits s ≡ false → wants_to_send q ≡ true → (accessed c).answer ≡ (Ok Sends) → Passed s q c ps ss (keyed_up q (accessed c).channel)
   in_stream : s ≡ TxStream → frame_number (next_frame q.streams ss).answer ≡ 0 → Passed s q c ps ss (stream_read q c (next_frame q.streams ss))
-  stream_over : s ≡ TxStreamSentEndOfStream → Passed s q c ps ss (unfilled EndOfTransmission TxEnding q c)
+  stream_over : s ≡ TxStreamSentEndOfStream → Passed s q c ps ss (unfilled (Ok (Some EndOfTransmission)) TxEnding q c)
   is_in_packets : s ≡ TxPacket → piece_number (next_piece q.packets ps).answer ≡ 0 → Passed s q c ps ss (packet_read q c (next_piece q.packets ps))
-  ending : transmits s ≡ true → Passed s q c ps ss (unfilled Nothing s q c)
+  ending : transmits s ≡ true → Passed s q c ps ss (unfilled (Ok None) s q c)
 
 -- refusals
-pub data Refusal : TxAnswer → Type 0 where
-  wrong_store : Refusal WrongStore
-  out_of_bounds : Refusal OutOfBounds
+pub data Refusal : Result (Option ModulatorFrame) LentError → Type 0 where
+  wrong_store : Refusal (Err WrongStore)
+  out_of_bounds : Refusal (Err OutOfBounds)
 
 pub data Given (s : State) (q : Sending) (c : Channel) (ps ss : List ℕ) : TxRead → Type 0 where
-  refused : {a : TxAnswer} → Refusal a → Given s q c ps ss (unfilled a s q c)
+  refused : {a : Result (Option ModulatorFrame) LentError} → Refusal a → Given s q c ps ss (unfilled a s q c)
   passed : {r : TxRead} → Passed s q c ps ss r → Given s q c ps ss r
 
 module _ (q : Sending) (c : Channel) (ps ss : List ℕ) where
@@ -78,12 +79,12 @@ module _ (q : Sending) (c : Channel) (ps ss : List ℕ) where
   unfolding begun pick
   begun-passed s off e = by (wants_to_send q) refl
     where
-      access : wants_to_send q ≡ true → (a : (Result Access ChannelError)) → (accessed c).answer ≡ a → access_number a ≡ 0 → Passed s q c ps ss (allowed a s q (accessed c).channel)
+      access : wants_to_send q ≡ true → (a : Result Access ChannelError) → (accessed c).answer ≡ a → access_number a ≡ 0 → Passed s q c ps ss (allowed a s q (accessed c).channel)
       access w (Ok Sends) f n = is_keyed_up off w f
       access w (Ok Waits) f n = held_back off w f
-      access w (Err NoAccess) f n = absurd (omega (arith, n))
+      access w (Err e) f n = absurd (omega (arith, n))
 
-      by : (t : Bool) → wants_to_send q ≡ t → Passed s q c ps ss (pick t (allowed (accessed c).answer s q (accessed c).channel) (unfilled Nothing s q c))
+      by : (t : Bool) → wants_to_send q ≡ t → Passed s q c ps ss (pick t (allowed (accessed c).answer s q (accessed c).channel) (unfilled (Ok None) s q c))
       by true w = access w (accessed c).answer refl (access_answered c e)
       by false w = none_waits off w
 
@@ -108,11 +109,11 @@ module _ (q : Sending) (c : Channel) (ps ss : List ℕ) where
   outcome s = stores (and (eqb (length ps) PACKETS) (eqb (length ss) STREAMS)) refl
     where
       bounds : length ps ≡ PACKETS → length ss ≡ STREAMS → (t : Bool) → all_sound s q c ≡ t
-          → Given s q c ps ss (pick t (given (transmission_of s) s q c ps ss) (unfilled OutOfBounds s q c))
+          → Given s q c ps ss (pick t (given (transmission_of s) s q c ps ss) (unfilled (Err OutOfBounds) s q c))
       bounds l m true e = passed (given-passed s l m e)
       bounds l m false e = refused out_of_bounds
 
       stores : (t : Bool) → and (eqb (length ps) PACKETS) (eqb (length ss) STREAMS) ≡ t
-          → Given s q c ps ss (pick t (pick (all_sound s q c) (given (transmission_of s) s q c ps ss) (unfilled OutOfBounds s q c)) (unfilled WrongStore s q c))
+          → Given s q c ps ss (pick t (pick (all_sound s q c) (given (transmission_of s) s q c ps ss) (unfilled (Err OutOfBounds) s q c)) (unfilled (Err WrongStore) s q c))
       stores true e = bounds (eqb-true (length ps) PACKETS (and_fst _ _ e)) (eqb-true (length ss) STREAMS (and_snd _ _ e)) (all_sound s q c) refl
       stores false e = refused wrong_store

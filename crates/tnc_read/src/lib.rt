@@ -6,13 +6,13 @@ ghost use Rattle.tnc_read.specs.Calls.{not_read, tnc_read};
 ghost use Rattle.outgoing.specs.Message.{read_up_to};
 
 use room::LentError;
+use outgoing::Outgoing;
 use radio::{MESSAGE_STORE_LEN, Radio};
 use tnc_core::Tnc;
 
 #[derive(Clone, Copy)]
 pub struct TncRead {
     pub answer: Result<usize, LentError>,
-    pub count: usize,
     pub tnc: Tnc,
 }
 
@@ -21,20 +21,17 @@ pub fn read_kiss(tnc: Tnc, message: &[u8], target: &mut [u8]) -> TncRead
     ensures { (result, target.new) ≡ tnc_read tnc message.now target.old }
 {
     if message.len() != MESSAGE_STORE_LEN {
-        return not_read(Err(LentError::WrongStore), tnc);
+        return not_read(LentError::WrongStore, tnc);
     }
     if !tnc.is_sound() {
-        return not_read(Err(LentError::OutOfBounds), tnc);
+        return not_read(LentError::OutOfBounds, tnc);
     }
     let from = tnc.radio.outgoing.read;
-    let mut end = tnc.radio.outgoing.len;
-    if target.len() < end - from {
-        end = from + target.len();
-    }
-    store::copy_in(&message[from..end], target, 0);
+    let count = (tnc.radio.outgoing.len - from).min(target.len());
+    let end = from + count;
+    target[..count].copy_from_slice(&message[from..end]);
     TncRead {
-        answer: HostAnswer::Done,
-        count: end - from,
+        answer: Ok(count),
         tnc: tnc.with_radio(read_up_to(tnc.radio, end)),
     }
 }
@@ -44,20 +41,18 @@ fn read_up_to(mut radio: Radio, end: usize) -> Radio
     ensures { result ≡ record { state = radio.state; outgoing = read_up_to radio.outgoing end } }
 {
     if end == radio.outgoing.len {
-        radio.outgoing.len = 0;
-        radio.outgoing.read = 0;
+        radio.outgoing = Outgoing::new();
         return radio;
     }
     radio.outgoing.read = end;
     radio
 }
 
-fn not_read(answer: Result<usize, LentError>, tnc: Tnc) -> TncRead
-    ensures { result ≡ not_read answer tnc }
+fn not_read(error: LentError, tnc: Tnc) -> TncRead
+    ensures { result ≡ not_read error tnc }
 {
     TncRead {
-        answer: answer,
-        count: 0,
+        answer: Err(error),
         tnc: tnc,
     }
 }

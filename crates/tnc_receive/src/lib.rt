@@ -8,7 +8,7 @@ ghost use Rattle.air_lsf.specs.Begun.{lsf_heard};
 ghost use Rattle.tnc_air.specs.Heard.{packet_heard};
 
 use protocol::{LsfFrame, PacketFrame, StreamFrame};
-use radio::{AirError, Heard, Hears, MESSAGE_STORE_LEN, RX_STORE_LEN};
+use radio::{AirError, Heard, MESSAGE_STORE_LEN, RX_STORE_LEN};
 use tnc_core::Tnc;
 
 #[derive(Clone, Copy)]
@@ -66,7 +66,7 @@ pub fn handle_stream(tnc: Tnc, frame: StreamFrame, rx: &mut [u8], message: &mut 
 }
 
 // The stores, by their lengths, then the record: the rest the calls of the radio see to.
-fn hears(tnc: Tnc, rx: usize, message: usize) -> Hears
+fn hears(tnc: Tnc, rx: usize, message: usize) -> Result<(), AirError>
     ensures { result ≡ hears_by tnc rx message }
 {
     if rx != RX_STORE_LEN {

@@ -6,15 +6,13 @@ use mathlib.Core.List.{List, [], ◌∷◌, ◌++◌}
 use native.Mathlib.Omega.{arith}
 use borrow.Author.Tests.{lt-leb, eq-eqb, ne_eqb}
 use lib.Dec.{eqb, eqb→eq}
-use lib.ListN.{replicate}
 use Rattle.choice.specs.Pick.{pick, pick_yes, and, and_both}
 use Rattle.choice.proofs.Table.{below, below_two}
 use Rattle.crc.specs.Crc.{crc_of}
 use Rattle.protocol.specs.declared.StreamFrame.{StreamFrame}
 use Rattle.lich.specs.declared.LichCollection.{LichCollection}
-use Rattle.lich.specs.declared.Assembly.TheVariants.{Whole, Missing, OutOfBounds}
-use Rattle.lich.specs.declared.Assembly.{Assembly}
-use Rattle.lich.specs.declared.Assembled.{Assembled}
+use Rattle.lich.specs.declared.LichError.{LichError}
+use Rattle.std.specs.Prelude.{Result, Ok, Err, Option, Some, None}
 use Rattle.protocol.specs.Lsf.{bits_at}
 use Rattle.lich.specs.Lich.{heard, heard_count, new_collection, with_segment, assembled}
 use Rattle.lich.specs.Promises.{Segment, is_among, OfLsf, none, more}
@@ -82,25 +80,25 @@ record Holds (x : Box) (c : LichCollection) : Type 0 where
   collects : Collects x c
   whole : Whole30 c
 
-abbrev whole_of : List ℕ → Assembled
-whole_of bytes = record { answer = Whole; bytes = bytes }
+-- the bytes that were assembled, where there are any
+abbrev bytes_of : Result (Option (List ℕ)) LichError → List ℕ
+bytes_of (Ok (Some bytes)) = bytes
+bytes_of (Ok None) = []
+bytes_of (Err e) = []
 
-abbrev missing : Assembled
-missing = record { answer = Missing; bytes = replicate 30 0 }
-
-abbrev is_whole : Assembly → Type 0
-is_whole Whole = Unit {0}
-is_whole Missing = ⊥
-is_whole OutOfBounds = ⊥
+abbrev is_whole : Result (Option (List ℕ)) LichError → Type 0
+is_whole (Ok (Some bytes)) = Unit {0}
+is_whole (Ok None) = ⊥
+is_whole (Err e) = ⊥
 
 -- six segments and their CRC, from what was assembled
-complete_as : (c : LichCollection) (lsf : List ℕ) → c.mask < 64 → assembled c ≡ whole_of lsf → crc_of lsf ≡ 0 → (complete c ≡ true) × (c.segments ≡ lsf)
+complete_as : (c : LichCollection) (lsf : List ℕ) → c.mask < 64 → assembled c ≡ Ok (Some lsf) → crc_of lsf ≡ 0 → (complete c ≡ true) × (c.segments ≡ lsf)
 unfolding assembled pick and
 complete_as c lsf m a z = go (eqb (heard_count c.mask) 6) refl (rw (lt-leb 64 c.mask m) at a)
   where
-    go : (t : Bool) → eqb (heard_count c.mask) 6 ≡ t → pick t (whole_of c.segments) missing ≡ whole_of lsf → (complete c ≡ true) × (c.segments ≡ lsf)
-    go true e b = let q = ap (λ (w : Assembled). w.bytes) b in (and_both e (eq-eqb (crc_of c.segments) 0 (ap crc_of q ∙ z)), q)
-    go false e b = absurd (subst is_whole (sym (ap (λ (w : Assembled). w.answer) b)) Prim.tt)
+    go : (t : Bool) → eqb (heard_count c.mask) 6 ≡ t → pick {A = Result (Option (List ℕ)) LichError} t (Ok (Some c.segments)) (Ok None) ≡ Ok (Some lsf) → (complete c ≡ true) × (c.segments ≡ lsf)
+    go true e b = let q = ap bytes_of b in (and_both e (eq-eqb (crc_of c.segments) 0 (ap crc_of q ∙ z)), q)
+    go false e b = absurd (subst is_whole (sym b) Prim.tt)
 
 module _ (x : Box) (c : LichCollection) (f : StreamFrame) (ty : Typed f) (i : InRange f) (h : Holds x c) where
   grows : (heard_count (with_frame f c).mask ≡ 6 → ⊥) → Holds (after x f) (with_frame f c)
@@ -113,7 +111,7 @@ module _ (x : Box) (c : LichCollection) (f : StreamFrame) (ty : Typed f) (i : In
         whole = record { small = frame_mask f c i.its_index h.whole.small; thirty = frame_thirty f c i.its_index ty.its_part h.whole.thirty };
       }
 
-  completes : (lsf : List ℕ) → assembled (with_frame f c) ≡ whole_of lsf → crc_of lsf ≡ 0 → Told (after x f) (RxStream (f.frame_number + 1)) (stream_setup lsf)
+  completes : (lsf : List ℕ) → assembled (with_frame f c) ≡ Ok (Some lsf) → crc_of lsf ≡ 0 → Told (after x f) (RxStream (f.frame_number + 1)) (stream_setup lsf)
   completes lsf a z =
       let p = complete_as (with_frame f c) lsf (frame_mask f c i.its_index h.whole.small) a z in
       subst (λ (s : List ℕ). Told (after x f) (RxStream (f.frame_number + 1)) (stream_setup s)) p.1 (told-whole x c f h.receiving i h.collects p.0)

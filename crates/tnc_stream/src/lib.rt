@@ -10,9 +10,9 @@ ghost use Rattle.tnc_stream.specs.Acquired.{acquired_with};
 ghost use Rattle.tnc_stream.specs.Followed.{followed};
 
 use kiss_build_stream::{new_stream_data, new_stream_setup};
-use lich::{LichCollection, LichError};
+use lich::LichCollection;
 use protocol::{LsfFrame, StreamFrame};
-use radio::{AirError, Heard, Hears, Radio};
+use radio::{AirError, Heard, Radio};
 use radio_hears::hears;
 use radio_told::told;
 use state::{Reception, State};

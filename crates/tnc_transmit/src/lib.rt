@@ -33,55 +33,37 @@ pub fn read_tx_frame(tnc: Tnc, channel: Channel, packets: &[u8], streams: &[u8])
     if !tnc.is_sound() {
         return not_given(LentError::OutOfBounds, tnc, channel);
     }
-    let radio = tnc.radio;
-    let state = radio.state;
-    let sending = tnc.sending;
-    let read = tnc_modulator::read_tx_frame(state, sending, channel, packets, streams);
+    let state = tnc.radio.state;
+    let read = tnc_modulator::read_tx_frame(state, tnc.sending, channel, packets, streams);
     put_given(tnc, read)
 }
 
+// PTT follows the state.
 fn put_given(tnc: Tnc, read: TxRead) -> TncTx
     ensures { result ≡ put_given tnc read }
 {
-    let answer = read.answer;
-    let lsf = read.lsf;
-    let stream = read.stream;
-    let packet = read.packet;
-    let state = read.state;
-    let sending = read.sending;
-    let channel = read.channel;
-    let buffer = tnc.buffer;
-    let radio = tnc.radio;
-    let outgoing = radio.outgoing;
+    let radio = Radio {
+        state: read.state,
+        ..tnc.radio
+    };
     TncTx {
-        answer: answer,
-        tx_delay: read.tx_delay,
-        lsf: lsf,
-        stream: stream,
-        packet: packet,
+        answer: read.answer,
         tnc: Tnc {
-            buffer: buffer,
-            sending: sending,
-            radio: Radio {
-                state: state,
-                outgoing: outgoing,
-            },
-            ptt: state.ptt(),
+            sending: read.sending,
+            radio,
+            ptt: read.state.ptt(),
+            ..tnc
         },
-        channel: channel,
+        channel: read.channel,
     }
 }
 
 fn not_given(error: LentError, tnc: Tnc, channel: Channel) -> TncTx
-    ensures { result ≡ not_given (Err error) tnc channel }
+    ensures { result ≡ not_given error tnc channel }
 {
     TncTx {
-        answer: answer,
-        tx_delay: 0,
-        lsf: LsfFrame([0u8; 30]),
-        stream: NO_STREAM_FRAME,
-        packet: NO_PACKET_FRAME,
-        tnc: tnc,
-        channel: channel,
+        answer: Err(error),
+        tnc,
+        channel,
     }
 }

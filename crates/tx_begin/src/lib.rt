@@ -4,30 +4,25 @@
 ghost use Rattle.std.specs.Prelude.{◌≡◌};
 ghost use Rattle.tx_begin.specs.Begin.{keyed_up, begun};
 
-use channel::{Access, Channel, ChannelError};
-use protocol::LsfFrame;
+use channel::{Access, Channel};
+use protocol::ModulatorFrame;
+use room::LentError;
 use sending::Sending;
 use state::State;
-use tx_frame::{NO_PACKET_FRAME, NO_STREAM_FRAME, TxAnswer, TxRead, unfilled};
+use tx_frame::{TxRead, unfilled};
 
 // PTT is off. The channel is asked only by somebody who has something to send.
 pub fn begin(state: State, sending: Sending, channel: Channel) -> TxRead
     ensures { result ≡ begun state sending channel }
 {
     if !sending.wants_to_send() {
-        return unfilled(TxAnswer::Nothing, state, sending, channel);
+        return unfilled(Ok(None), state, sending, channel);
     }
     let access = channel_access::access(channel);
-    let answer = access.answer;
-    match answer {
-        Ok(Access::Sends) => return key_up(sending, access.channel),
-        Ok(Access::Waits) => return unfilled(TxAnswer::Nothing, state, sending, access.channel),
-        Err(ChannelError::OutOfBounds) => return unfilled(
-            TxAnswer::OutOfBounds,
-            state,
-            sending,
-            access.channel,
-        ),
+    match access.answer {
+        Ok(Access::Sends) => key_up(sending, access.channel),
+        Ok(Access::Waits) => unfilled(Ok(None), state, sending, access.channel),
+        Err(_) => unfilled(Err(LentError::OutOfBounds), state, sending, access.channel),
     }
 }
 
@@ -35,19 +30,13 @@ pub fn begin(state: State, sending: Sending, channel: Channel) -> TxRead
 fn key_up(sending: Sending, channel: Channel) -> TxRead
     ensures { result ≡ keyed_up sending channel }
 {
+    let preamble = ModulatorFrame::Preamble {
+        tx_delay: sending.tx_delay,
+    };
     let state = if sending.streams.pending {
         State::TxStream
     } else {
         State::TxPacket
     };
-    TxRead {
-        answer: TxAnswer::Preamble,
-        tx_delay: sending.tx_delay,
-        lsf: LsfFrame([0u8; 30]),
-        stream: NO_STREAM_FRAME,
-        packet: NO_PACKET_FRAME,
-        state: state,
-        sending: sending,
-        channel: channel,
-    }
+    unfilled(Ok(Some(preamble)), state, sending, channel)
 }

@@ -19,7 +19,7 @@ pub struct TxRead {
     pub channel: Channel,
 }
 
-// An answer that is all there is to it: state, queues and channel as they are given.
+// An answer beside which state, queues and channel stay as they are given.
 pub fn unfilled(
     answer: Result<Option<ModulatorFrame>, LentError>,
     state: State,

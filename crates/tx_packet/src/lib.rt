@@ -2,61 +2,35 @@
 #![tactic(auto)]
 
 ghost use Rattle.std.specs.Prelude.{◌≡◌};
-ghost use Rattle.tx_packet.specs.Packet.{packet_answer, after_packet, packet_given};
+ghost use Rattle.tx_packet.specs.Packet.{after_packet, packet_given};
 
 use channel::Channel;
-use packets::ReadAnswer;
+use protocol::ModulatorFrame;
+use room::LentError;
 use sending::Sending;
 use state::State;
-use tx_frame::{NO_STREAM_FRAME, TxAnswer, TxRead};
+use tx_frame::TxRead;
 
 pub fn give_packet(sending: Sending, channel: Channel, packets: &[u8]) -> TxRead
     ensures { result ≡ packet_given sending channel packets.now }
 {
     let read = packet_read::read_next(sending.packets, packets);
-    let answer = read.answer;
-    let lsf = read.lsf;
-    let frame = read.frame;
-    let rest = read.queue;
-    let streams = sending.streams;
     TxRead {
-        answer: packet_answer(answer),
-        tx_delay: 0,
-        lsf: lsf,
-        stream: NO_STREAM_FRAME,
-        packet: frame,
-        state: after_packet(answer),
+        answer: read.answer,
+        state: after_packet(read.answer),
         sending: Sending {
-            packets: rest,
-            streams: streams,
-            tx_delay: sending.tx_delay,
+            packets: read.queue,
+            ..sending
         },
-        channel: channel,
+        channel,
     }
 }
 
-fn packet_answer(answer: ReadAnswer) -> TxAnswer
-    ensures { result ≡ packet_answer answer }
-{
-    match answer {
-        ReadAnswer::Nothing => TxAnswer::Nothing,
-        ReadAnswer::Lsf => TxAnswer::Lsf,
-        ReadAnswer::Packet => TxAnswer::Packet,
-        ReadAnswer::End => TxAnswer::EndOfTransmission,
-        ReadAnswer::WrongStore => TxAnswer::WrongStore,
-        ReadAnswer::OutOfBounds => TxAnswer::OutOfBounds,
-    }
-}
-
-fn after_packet(answer: ReadAnswer) -> State
+fn after_packet(answer: Result<Option<ModulatorFrame>, LentError>) -> State
     ensures { result ≡ after_packet answer }
 {
     match answer {
-        ReadAnswer::Nothing => State::TxPacket,
-        ReadAnswer::Lsf => State::TxPacket,
-        ReadAnswer::Packet => State::TxPacket,
-        ReadAnswer::End => State::TxEnding,
-        ReadAnswer::WrongStore => State::TxPacket,
-        ReadAnswer::OutOfBounds => State::TxPacket,
+        Ok(Some(ModulatorFrame::EndOfTransmission)) => State::TxEnding,
+        _ => State::TxPacket,
     }
 }

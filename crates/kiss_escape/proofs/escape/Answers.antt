@@ -1,6 +1,5 @@
 -- `kiss_escape::escape` meets its contract. Assumes nothing.
 use Rattle.std.proofs.Common.{◌≤◌, sym, ◌∙◌, arith}
-use mathlib.Core.Logic.{⊎_elim}
 use lib.ListN.{length}
 use Rattle.std.specs.Prelude.{Ok}
 use Rattle.kiss_layout.specs.Escape.{esc}

@@ -1,61 +1,31 @@
--- `kiss_escape::put_escaped` meets its contract. The loop's invariant says what is left to do: storing what src from i on is escaped to, from j on, gives what storing all of it from 0 on gave at the start. Assumes nothing.
-use Rattle.std.proofs.Common.{ℕ, ◌+◌, ◌-◌, ◌≡◌, refl, sym, ap, ◌∙◌, arith, rules}
-use mathlib.Core.List.{List, ◌∷◌}
+-- `kiss_escape::put_escaped` meets its contract. The loop's invariant says what is left to do: storing what src from the loop's block on is escaped to, from j on, gives what storing all of it from 0 on gave at the start. Assumes nothing.
+use Rattle.std.proofs.Common.{◌*◌, ◌/◌, ◌<◌, ◌≡◌, ap, sym, ◌∙◌, arith}
+use lib.ListN.{length, drop}
 use lib.Seq.{sets}
-use lib.ListN.{length, drop, get_or, length-set}
-use Rattle.kiss_layout.specs.Escape.{FESC, esc}
-use Rattle.room.proofs.Runs.{put_one, put_two, put_front}
-use Rattle.kiss_layout.proofs.Escapes.{esc_at_special, esc_at_plain, esc-done}
+use Rattle.room.proofs.Runs.{put_front}
+use Rattle.kiss_layout.specs.Escape.{esc}
+use Rattle.kiss_escape.proofs.Plain.{block-length, block_put}
 use Rattle.kiss_escape.proofs.put_escaped.Goals as goal
 
-pub overflow_add-i : goal.overflow_add-i
-overflow_add-i c = omega (arith, c.put_plain-n.ensures.0)
+pub put_block-j-requires : goal.put_block-j-requires
+put_block-j-requires c =
+    let chunks = c.as_chunks.ensures in let k = c.loop-block.block-index in
+    omega (arith, block-length c.args.src.now _ k chunks.front (omega (arith, chunks.front_len)))
 
-pub overflow_add-j : goal.overflow_add-j
-overflow_add-j c = omega (arith, c.put_plain-n.ensures.1)
-
-pub overflow_add-stop : goal.overflow_add-stop
-overflow_add-stop c = omega (arith, c.put_plain-n.ensures.0)
-
-pub loop-i-smaller-then-stop-i : goal.loop-i-smaller-then-stop-i
-loop-i-smaller-then-stop-i c = omega (arith, c.put_plain-n.ensures.0)
-
--- a turn with blocks
-pub loop-i-preserved-then-stop-i : goal.loop-i-preserved-then-stop-i
-loop-i-preserved-then-stop-i c =
-    let e = c.put_plain-n.ensures in
-    (omega (arith, e.0), search rules, omega (arith, e.1), e.2 ∙ c.loop-i.invariant.3, omega (arith, e.0))
-
-pub bounds-dst-j : goal.bounds-dst-j
-bounds-dst-j c =
-    let source : List ℕ = c.args.src.now in
-    omega (arith, ap length (esc_at_special (source) c.loop-i.i c.loop-i-test.true c.if-b.true refl))
-
-pub bounds-dst-j-then-b : goal.bounds-dst-j-then-b
-bounds-dst-j-then-b c =
-    let source : List ℕ = c.args.src.now in
-    let left_special : esc (drop c.loop-i.i (source)) ≡ FESC ∷ c.code.result ∷ esc (drop (c.loop-i.i + 1) (source)) = esc_at_special (source) c.loop-i.i c.loop-i-test.true c.if-b.true c.code.ensures in
-    simp length-set (omega (arith, ap length (left_special)))
-
-pub loop-i-preserved-then-b : goal.loop-i-preserved-then-b
-loop-i-preserved-then-b c =
-    let source : List ℕ = c.args.src.now in
-    let left_special : esc (drop c.loop-i.i (source)) ≡ FESC ∷ c.code.result ∷ esc (drop (c.loop-i.i + 1) (source)) = esc_at_special (source) c.loop-i.i c.loop-i-test.true c.if-b.true c.code.ensures in
-    (search rules, search rules, omega (arith, ap length (left_special)), put_two c.loop-i.dst c.loop-i.j (left_special) c.loop-i.invariant.3, search rules)
-
-pub bounds-dst-j-else-b : goal.bounds-dst-j-else-b
-bounds-dst-j-else-b c =
-    let source : List ℕ = c.args.src.now in
-    let left-plain : esc (drop c.loop-i.i (source)) ≡ get_or (source) c.loop-i.i 0 ∷ esc (drop (c.loop-i.i + 1) (source)) = esc_at_plain (source) c.loop-i.i c.loop-i-test.true c.if-b.false in
-    omega (arith, ap length (left-plain))
-
-pub loop-i-preserved : goal.loop-i-preserved
-loop-i-preserved c =
-    let source : List ℕ = c.args.src.now in
-    let left-plain : esc (drop c.loop-i.i (source)) ≡ get_or (source) c.loop-i.i 0 ∷ esc (drop (c.loop-i.i + 1) (source)) = esc_at_plain (source) c.loop-i.i c.loop-i-test.true c.if-b.false in
-    (search rules, search rules, omega (arith, ap length (left-plain)), put_one c.loop-i.dst c.loop-i.j (left-plain) c.loop-i.invariant.3, search rules)
+pub loop-block-preserved : goal.loop-block-preserved
+loop-block-preserved c =
+    let chunks = c.as_chunks.ensures in let k = c.loop-block.block-index in let s = c.args.src.now in
+    let below : k < length s / 16 = omega (arith, chunks.front_len) in (
+      c.put_block-j.auto.dst ∙ c.loop-block.invariant.0,
+      omega (arith, c.put_block-j.ensures.0, block-length s _ k chunks.front below),
+      block_put s _ k chunks.front below c.loop-block.dst c.loop-block.j c.put_block-j.ensures.1 c.put_block-j.ensures.0 c.loop-block.invariant.2,
+    )
 
 pub returns : goal.returns
 returns c =
-    let source : List ℕ = c.args.src.now in
-    let e = esc-done (source) c.loop-i.i c.loop-i-test.false in (omega (arith, ap length e), ap (sets c.loop-i.dst c.loop-i.j) (sym e) ∙ c.loop-i.invariant.3 ∙ put_front c.args.dst.now (esc (source)) c.requires)
+    let chunks = c.as_chunks.ensures in let a = c.args in
+    let at_end : c.loop-block.block-index ≡ length a.src.now / 16 = omega (arith, chunks.front_len, c.loop-block.auto.block-index-end) in
+    let rest : c.as_chunks.result.1.now ≡ drop (c.loop-block.block-index * 16) a.src.now = chunks.back ∙ ap (λ n. drop (n * 16) a.src.now) (sym at_end) in (
+      omega (arith, c.put_each.ensures.0, ap (λ l. length (esc l)) rest),
+      c.put_each.ensures.1 ∙ ap (λ l. sets c.loop-block.dst c.loop-block.j (esc l)) rest ∙ c.loop-block.invariant.2 ∙ put_front a.dst.now (esc a.src.now) c.requires,
+    )

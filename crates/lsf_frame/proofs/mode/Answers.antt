@@ -1,8 +1,7 @@
 -- `lsf_frame::mode` meets its contract. Assumes nothing.
-use Rattle.std.proofs.Common.{◌≡◌, sym, ap, ◌∙◌, ℕ, ◌%◌, arith, rules}
+use Rattle.std.proofs.Common.{◌≡◌, ◌∙◌, ℕ, ◌%◌, arith, rules}
 use mathlib.Core.List.{List}
 use lib.ListN.{get_or}
-use Rattle.protocol.specs.Kinds.{mode_of}
 use Rattle.protocol.specs.Lsf.{bits_at, type_field, field_of, mode_bits}
 use Rattle.protocol.proofs.Read.{mode_read}
 use Rattle.lsf_frame.proofs.mode.Goals as goal
