@@ -125,14 +125,10 @@ fn keep_bytes(
     let mut i = at;
     let mut j = wrote;
     let mut n = filled;
-    while 2 <= src.len() - i {
-        let b = src[i + 1];
+    for event in src[at..].as_chunks::<2>().0 {
+        let [kind, b] = *event;
         // with room for a longest line, and place for the byte
-        if !((src[i] == HOST)
-            & (b != FEND)
-            & (LINE_LEN <= dst.len() - j)
-            & (0 < reader.len() - n))
-        {
+        if !((kind == HOST) & (b != FEND) & (LINE_LEN <= dst.len() - j) & (0 < reader.len() - n)) {
             break;
         }
         reader[n] = b;
