@@ -2,9 +2,9 @@
 #![tactic(auto)]
 
 ghost use Rattle.std.specs.Prelude.{◌≡◌};
-ghost use Rattle.event_answer.specs.Answer.{on_flag, answered, refused};
+ghost use Rattle.std.specs.Result.{MatchResult};
+ghost use Rattle.event_answer.specs.Answer.{answered, refused};
 
-use room::LentError;
 use channel::Channel;
 use tnc_core::Tnc;
 
@@ -35,24 +35,21 @@ pub fn answer(number: u8, count: usize, tnc: Tnc, channel: Channel) -> Applied
     ensures { result ≡ answered number count tnc channel }
 {
     Applied {
-        number: number,
-        count: count,
-        ptt: is_on(tnc.ptt()),
-        after: EventBox {
-            tnc: tnc,
-            channel: channel,
-        },
+        number,
+        count,
+        // Of a state out of bounds there is no PTT to tell, and 0 is printed. From a new TNC there is none.
+        ptt: tnc.ptt().unwrap_or(false),
+        after: EventBox { tnc, channel },
     }
 }
 
-// Of a state out of bounds there is no PTT to tell, and 0 is printed. From a new TNC there is none.
-fn is_on(ptt: Result<bool, LentError>) -> bool
-    ensures { result ≡ on_flag ptt }
+// Document 01's number of what a call of the TNC answers.
+pub fn number_of<T: Drop, E: Into<u8>>(answer: Result<T, E>) -> u8
+    ensures { MatchResult answer (λ _. result ≡ 0) (λ error. E.converts error result) }
 {
-    match ptt {
-        Ok(false) => return false,
-        Ok(true) => return true,
-        Err(LentError::OutOfBounds) => return false,
+    match answer {
+        Ok(_) => 0,
+        Err(error) => error.into(),
     }
 }
 
