@@ -7,8 +7,7 @@ use Rattle.kiss_layout.specs.declared.KissError.{KissError}
 use Rattle.kiss_layout.specs.declared.KissCommand.{KissCommand}
 use Rattle.kiss_layout.specs.declared.KissError.TheVariants.{MalformedKissFrame as NoPort, MalformedKissFrame as NoCommand, UnsupportedKissCommand as NoSuch}
 use Rattle.kiss_layout.specs.Read.{port_read, command_read}
-use Rattle.kiss_calls.specs.declared.WriteAnswer.{WriteAnswer}
-use Rattle.kiss_calls.specs.declared.WriteAnswer.TheVariants.{Done, Full, WrongStore as NoRoom, OutOfBounds as NoState}
+use Rattle.kiss_calls.specs.declared.WriteError.{WriteError}
 use Rattle.kiss_calls.specs.Promises.{after_written}
 use Rattle.packets.specs.Frames.{Packet, AirFrame, setup, piece}
 use Rattle.packets.specs.Queue.{made_basic, made_full, pushed_basic, pushed_full}
@@ -56,11 +55,9 @@ abbrev pub host_of : World → HostBox
 host_of w = host_box (record { sending = w.tnc.sending; channel = w.channel }) w.packets w.streams
 
 -- the frames that a write completes; a write that is refused completes none
-abbrev pub frames_after : WriteAnswer → World → List ℕ → List (List ℕ)
-frames_after Done w buf = frames_held (after_written (reader_box w.tnc.buffer w.reader) buf)
-frames_after Full w buf = []
-frames_after NoRoom w buf = []
-frames_after NoState w buf = []
+abbrev pub frames_after : Result ℕ WriteError → World → List ℕ → List (List ℕ)
+frames_after (Ok n) w buf = frames_held (after_written (reader_box w.tnc.buffer w.reader) buf)
+frames_after (Err error) w buf = []
 
 -- what a call brings into a queue
 unfoldable pub brings : {A : Type 0} → (HostBox → List ℕ → List A) → World → Call → List A

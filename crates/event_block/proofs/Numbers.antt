@@ -13,8 +13,8 @@ use Rattle.channel.specs.declared.ChannelError.TheVariants.{OutOfRange as SetRan
 use Rattle.room.specs.declared.LentError.{LentError}
 use Rattle.room.specs.declared.LentError.TheVariants.{WrongStore as LentStore, OutOfBounds as LentBounds}
 use Rattle.channel.specs.Access.{carrier_set, set_number}
-use Rattle.kiss_calls.specs.declared.WriteAnswer.{WriteAnswer}
-use Rattle.kiss_calls.specs.declared.WriteAnswer.TheVariants.{Done as Written, Full, WrongStore as WriteStore, OutOfBounds as WriteBounds}
+use Rattle.kiss_calls.specs.declared.WriteError.{WriteError}
+use Rattle.kiss_calls.specs.declared.WriteError.TheVariants.{Full, WrongStore as WriteStore, OutOfBounds as WriteBounds}
 use Rattle.kiss_calls.specs.Calls.{write_number}
 use Rattle.outgoing.specs.Message.{host_number}
 use Rattle.radio.specs.Radio.{air_number}
@@ -30,11 +30,11 @@ use Rattle.event_step.specs.Step.{Turn, call_of, number_of, made, not_made, perh
 use Rattle.event_block.specs.Spot.{shown}
 use Rattle.event_block.specs.Block.{line_for}
 
-write_digit : (a : WriteAnswer) → write_number a ≤ 9
-write_digit Written = omega arith
-write_digit Full = omega arith
-write_digit WriteStore = omega arith
-write_digit WriteBounds = omega arith
+write_digit : (a : Result ℕ WriteError) → write_number a ≤ 9
+write_digit (Ok n) = omega arith
+write_digit (Err Full) = omega arith
+write_digit (Err WriteStore) = omega arith
+write_digit (Err WriteBounds) = omega arith
 
 read_digit : (a : Result ℕ LentError) → host_number a ≤ 9
 read_digit (Ok n) = omega arith
