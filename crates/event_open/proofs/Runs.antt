@@ -19,7 +19,7 @@ use Rattle.event_line.specs.declared.LineError.{LineError}
 use Rattle.event_line.specs.Line.{line_of, written}
 use Rattle.event_line.proofs.Lines.{line_none_long, written-yes}
 use Rattle.event_answer.specs.declared.EventBox.{EventBox}
-use Rattle.event_open.specs.declared.Opened.{Opened}
+use Rattle.event_answer.specs.declared.Taken.{Taken}
 use Rattle.event_open.specs.declared.Run.{Run}
 use Rattle.event_answer.specs.Answer.{LINE}
 use Rattle.event_open.specs.Inside.{is_open, begins, keeps, ended, kept_run, filled_to, stays, ran_to, open_run}
@@ -138,11 +138,11 @@ run_bounds (k ∷ b ∷ s) u d n r f on h =
     (λ e. (omega arith, omega arith, h))
 
 pub open_bounds : (x : EventBox) (s : List ℕ) (at : ℕ) (d : List ℕ) (n : ℕ) (r : List ℕ) (p q : ℕ) → at ≤ length s → n ≤ length d
-    → {y : Opened} {e g : List ℕ} → (y, e, g) ≡ open_run x s at d n r p q → (at ≤ y.used) × (y.used ≤ length s) × (y.wrote ≤ length d)
+    → {y : Taken} {e g : List ℕ} → (y, e, g) ≡ open_run x s at d n r p q → (at ≤ y.used) × (y.used ≤ length s) × (y.wrote ≤ length d)
 unfolding open_run
 open_bounds x s at d n r p q h k {y} {e} {g} f =
-    subst (λ (t : Opened × List ℕ × List ℕ). (at ≤ t.0.used) × (t.0.used ≤ length s) × (t.0.wrote ≤ length d)) (sym f)
-    (pick_all (λ (t : Opened × List ℕ × List ℕ). (at ≤ t.0.used) × (t.0.used ≤ length s) × (t.0.wrote ≤ length d)) _ _ _
+    subst (λ (t : Taken × List ℕ × List ℕ). (at ≤ t.0.used) × (t.0.used ≤ length s) × (t.0.wrote ≤ length d)) (sym f)
+    (pick_all (λ (t : Taken × List ℕ × List ℕ). (at ≤ t.0.used) × (t.0.used ≤ length s) × (t.0.wrote ≤ length d)) _ _ _
     (λ c.
     let b = run_bounds (drop at s) at d n r x.tnc.buffer.filled x.tnc.ptt k in
     (omega (arith, b), omega (arith, b, length-drop at s), omega (arith, b)))
