@@ -6,12 +6,12 @@ use mathlib.Core.List.{List, [], ◌∷◌, ◌++◌, append-nil, append_assoc}
 use Rattle.choice.specs.Pick.{pick, pick_all}
 use Rattle.channel.specs.declared.Channel.{Channel}
 use Rattle.protocol.specs.declared.StreamFrame.{StreamFrame}
-use Rattle.packets.specs.declared.ReadAnswer.{ReadAnswer}
-use Rattle.packets.specs.declared.ReadAnswer.TheVariants.{Nothing as NoPiece, Lsf as PacketLsf, Packet as Piece, End, WrongStore as NoPacketStore, OutOfBounds as NoPacketState}
+use Rattle.std.specs.Prelude.{Result, Ok, Err, Option, Some, None}
+use Rattle.room.specs.declared.LentError.{LentError}
+use Rattle.protocol.specs.declared.ModulatorFrame.{ModulatorFrame}
+use Rattle.protocol.specs.declared.ModulatorFrame.TheVariants.{Preamble, Lsf, Stream, Packet, EndOfTransmission}
 use Rattle.packets.specs.Queue.{read_next as next_piece}
 use Rattle.streams.specs.declared.StreamRead.{StreamRead}
-use Rattle.streams.specs.declared.StreamReadAnswer.{StreamReadAnswer}
-use Rattle.streams.specs.declared.StreamReadAnswer.TheVariants.{Nothing as NoFrame, Lsf as StreamLsf, Frame, WrongStore as NoStreamStore, OutOfBounds as NoStreamState}
 use Rattle.streams.specs.Queue.{read_next}
 use Rattle.sending.specs.declared.Sending.{Sending}
 use Rattle.state.specs.declared.State.{State}
@@ -55,30 +55,33 @@ Sent t = t.radio.state ≡ TxStreamSentEndOfStream
 
 -- ---- a read
 
-after_packet-other : (a : ReadAnswer) → is_sent (after_packet a) ≡ false
-after_packet-other NoPiece = refl
-after_packet-other PacketLsf = refl
-after_packet-other Piece = refl
-after_packet-other End = refl
-after_packet-other NoPacketStore = refl
-after_packet-other NoPacketState = refl
+after_packet-other : (a : Result (Option ModulatorFrame) LentError) → is_sent (after_packet a) ≡ false
+after_packet-other (Ok None) = refl
+after_packet-other (Ok (Some (Preamble delay))) = refl
+after_packet-other (Ok (Some (Lsf lsf))) = refl
+after_packet-other (Ok (Some (Stream frame))) = refl
+after_packet-other (Ok (Some (Packet frame))) = refl
+after_packet-other (Ok (Some EndOfTransmission)) = refl
+after_packet-other (Err e) = refl
 
 module _ (t : Tnc) (q : Sending) (c : Channel) (ps ss : List ℕ) (fs : List StreamFrame) where
   abbrev EndsAfter : State → TxRead → Type 0
   EndsAfter s r = r.state ≡ TxStreamSentEndOfStream → Ends (fs ++ in_streams (transmission_of s) (put_given t r))
 
   -- the frame that a stream read gives, by its answer
-  by_answer : (a : StreamReadAnswer) (r : StreamRead) → r.answer ≡ a → EndsAfter TxStream (stream_read q c r)
+  by_answer : (a : Result (Option ModulatorFrame) LentError) (r : StreamRead) → r.answer ≡ a → EndsAfter TxStream (stream_read q c r)
   unfolding pick
-  by_answer NoFrame r e = rw e (other {s = TxStream} refl)
-  by_answer StreamLsf r e = rw e (other {s = TxStream} refl)
-  by_answer Frame r e = rw e (marked r.frame.end_of_stream refl)
+  by_answer (Ok None) r e = rw e (other {s = TxStream} refl)
+  by_answer (Ok (Some (Preamble delay))) r e = rw e (other {s = TxStream} refl)
+  by_answer (Ok (Some (Lsf lsf))) r e = rw e (other {s = TxStream} refl)
+  by_answer (Ok (Some (Stream frame))) r e = rw e (marked frame.end_of_stream refl)
     where
-      marked : (last : Bool) → r.frame.end_of_stream ≡ last → pick last TxStreamSentEndOfStream TxStream ≡ TxStreamSentEndOfStream → Ends (fs ++ (r.frame ∷ []))
-      marked true m f = record { before = fs; last = r.frame; its_list = refl; its_mark = m }
+      marked : (last : Bool) → frame.end_of_stream ≡ last → pick last TxStreamSentEndOfStream TxStream ≡ TxStreamSentEndOfStream → Ends (fs ++ (frame ∷ []))
+      marked true m f = record { before = fs; last = frame; its_list = refl; its_mark = m }
       marked false m f = other {s = TxStream} refl f
-  by_answer NoStreamStore r e = rw e (other {s = TxStream} refl)
-  by_answer NoStreamState r e = rw e (other {s = TxStream} refl)
+  by_answer (Ok (Some (Packet frame))) r e = rw e (other {s = TxStream} refl)
+  by_answer (Ok (Some EndOfTransmission)) r e = rw e (other {s = TxStream} refl)
+  by_answer (Err k) r e = rw e (other {s = TxStream} refl)
 
   -- no frame is read and the state stands
   stands : (s : State) (r : TxRead) → in_streams (transmission_of s) (put_given t r) ≡ [] → (s ≡ TxStreamSentEndOfStream → Ends fs) → s ≡ TxStreamSentEndOfStream

@@ -13,8 +13,8 @@ use Rattle.kiss_layout.specs.declared.KissCommand.{KissCommand}
 use Rattle.kiss_layout.specs.declared.KissError.{KissError}
 use Rattle.kiss_layout.specs.declared.KissError.TheVariants.{MalformedKissFrame as NoCommand, UnsupportedKissCommand as NoSuch, MalformedKissFrame as NoPort}
 use Rattle.kiss_layout.specs.Read.{port_read, command_read}
-use Rattle.kiss_calls.specs.declared.WriteAnswer.{WriteAnswer}
-use Rattle.kiss_calls.specs.declared.WriteAnswer.TheVariants.{Done, Full, WrongStore as NoRoom, OutOfBounds as NoState}
+use Rattle.kiss_calls.specs.declared.WriteError.{WriteError}
+use Rattle.kiss_calls.specs.declared.WriteError.TheVariants.{Full, WrongStore as NoRoom, OutOfBounds as NoState}
 use Rattle.kiss_calls.specs.Calls.{write_number, written}
 use Rattle.kiss_calls.specs.Promises.{after_written}
 use Rattle.packets.specs.declared.PacketQueue.{PacketQueue}
@@ -160,15 +160,15 @@ module _ {A : Type 0} (L : PacketQueue → StreamQueue → List ℕ → List ℕ
         answer_as : (writes w buf).0.answer ≡ (written w.tnc.buffer buf w.reader).0.answer
         answer_as = sym (ap (λ (r : TncWritten × List ℕ × List ℕ × List ℕ). r.0.answer) (comes_to w s buf)) ∙ hosts.answer_is (link w) buf (link_sound w s)
 
-        by_answer : (a : WriteAnswer) → (writes w buf).0.answer ≡ a → Grows w (after_write w (writes w buf)) (brought_by g (frames_after a w buf) (host_of w))
+        by_answer : (a : Result ℕ WriteError) → (writes w buf).0.answer ≡ a → Grows w (after_write w (writes w buf)) (brought_by g (frames_after a w buf) (host_of w))
         unfolding brought_by
-        by_answer Done e =
+        by_answer (Ok n) e =
             subst (λ (r : TncWritten × List ℕ × List ℕ × List ℕ). Grows w (after_write w r) (brought_by g (frames_held (after_written (link w).reader buf)) (host_of w))) (comes_to w s buf)
             (subst (λ (y : HostBox). Adds (host_of w) y (brought_by g (frames_held (after_written (link w).reader buf)) (host_of w)))
-            (hosts.writes-take (link w) buf (link_sound w s) (sym answer_as ∙ e)) (all_frames (frames_held (after_written (link w).reader buf)) (host_of w) (link_sound w s).its_host k))
-        by_answer Full e = subst (λ (v : World). Grows w v []) (sym (write_refused w buf (λ n. absurd (omega (arith, sym (ap write_number e) ∙ n))))) (sym (append-nil (left_at w)), k)
-        by_answer NoRoom e = subst (λ (v : World). Grows w v []) (sym (write_refused w buf (λ n. absurd (omega (arith, sym (ap write_number e) ∙ n))))) (sym (append-nil (left_at w)), k)
-        by_answer NoState e = subst (λ (v : World). Grows w v []) (sym (write_refused w buf (λ n. absurd (omega (arith, sym (ap write_number e) ∙ n))))) (sym (append-nil (left_at w)), k)
+            (hosts.writes-take (link w) buf n (link_sound w s) (sym answer_as ∙ e)) (all_frames (frames_held (after_written (link w).reader buf)) (host_of w) (link_sound w s).its_host k))
+        by_answer (Err Full) e = subst (λ (v : World). Grows w v []) (sym (write_refused w buf (λ n. absurd (omega (arith, sym (ap write_number e) ∙ n))))) (sym (append-nil (left_at w)), k)
+        by_answer (Err NoRoom) e = subst (λ (v : World). Grows w v []) (sym (write_refused w buf (λ n. absurd (omega (arith, sym (ap write_number e) ∙ n))))) (sym (append-nil (left_at w)), k)
+        by_answer (Err NoState) e = subst (λ (v : World). Grows w v []) (sym (write_refused w buf (λ n. absurd (omega (arith, sym (ap write_number e) ∙ n))))) (sym (append-nil (left_at w)), k)
 
       pub write_known : (w : World) (buf : List ℕ) → Sound w → KnownAt w → KnownAt (after_write w (writes w buf))
       write_known w buf s k = (by_answer w buf s k (writes w buf).0.answer refl).1

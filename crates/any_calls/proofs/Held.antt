@@ -9,17 +9,18 @@ use native.Mathlib.Omega.{arith}
 use Rattle.choice.specs.Pick.{pick, pick_all}
 use Rattle.channel.specs.declared.Channel.{Channel}
 use Rattle.packets.specs.declared.PacketQueue.{PacketQueue}
-use Rattle.packets.specs.declared.PacketRead.{PacketRead}
-use Rattle.packets.specs.declared.ReadAnswer.{ReadAnswer}
-use Rattle.packets.specs.declared.ReadAnswer.TheVariants.{Nothing as NoPiece, Lsf as PacketLsf, Packet as Piece, End, WrongStore as NoPacketStore, OutOfBounds as NoPacketState}
+use Rattle.std.specs.Prelude.{Result, Ok, Err, Option, Some, None}
+use Rattle.room.specs.declared.LentError.{LentError}
+use Rattle.room.specs.declared.LentError.TheVariants.{WrongStore, OutOfBounds}
+use Rattle.protocol.specs.declared.ModulatorFrame.{ModulatorFrame}
+use Rattle.protocol.specs.declared.ModulatorFrame.TheVariants.{Preamble, Lsf, Stream, Packet, EndOfTransmission}
+use Rattle.packets.specs.Promises.{of_packets}
+use Rattle.packets.proofs.Kept.{gives_packets}
 use Rattle.packets.specs.Frames.{setup, piece}
 use Rattle.packets.specs.Queue.{is_empty, read_next, read_number, frames_in}
-use Rattle.packet_rule.specs.Promises.{given}
 use Rattle.packet_rule.proofs.Walked.{one_is_some}
 use Rattle.packet_rule.proofs.Held.{push_never_empties, frame_keeps_its_place, held_is_answered}
 use Rattle.streams.specs.declared.StreamQueue.{StreamQueue}
-use Rattle.streams.specs.declared.StreamReadAnswer.{StreamReadAnswer}
-use Rattle.streams.specs.declared.StreamReadAnswer.TheVariants.{Nothing as NoFrame, Lsf as StreamLsf, Frame, WrongStore as NoStreamStore, OutOfBounds as NoStreamState}
 use Rattle.streams.specs.Queue.{read_next as next_frame}
 use Rattle.sending.specs.declared.Sending.{Sending}
 use Rattle.sending.specs.Sending.{wants_to_send}
@@ -86,20 +87,26 @@ still w read_tx_frame s r = absurd (false≢true (sym r))
 -- ---- a read
 
 -- what an answer leaves a packet transmission with: a frame of a place that is held
-frame_given : (a : ReadAnswer) (r : PacketRead) → r.answer ≡ a → r.answer ≢ NoPiece → read_number r.answer ≡ 0 → after_packet a ≡ TxPacket → given r ≢ []
-frame_given NoPiece r e n ok p = absurd (n e)
-frame_given PacketLsf r e n ok p = λ z. one_is_some (setup r.lsf.0) (sym (ap (λ (k : ReadAnswer). frames_in k r) e) ∙ z)
-frame_given Piece r e n ok p = λ z. one_is_some (piece r.frame) (sym (ap (λ (k : ReadAnswer). frames_in k r) e) ∙ z)
-frame_given End r e n ok p = other {s = TxEnding} refl p
-frame_given NoPacketStore r e n ok p = absurd (omega (arith, sym (ap read_number e) ∙ ok))
-frame_given NoPacketState r e n ok p = absurd (omega (arith, sym (ap read_number e) ∙ ok))
+frame_given : (a : Result (Option ModulatorFrame) LentError) → a ≢ Ok None → ((f : ModulatorFrame) → a ≡ Ok (Some f) → of_packets f ≡ true) → read_number a ≡ 0
+    → after_packet a ≡ TxPacket → frames_in a ≢ []
+frame_given (Ok None) n g ok p = absurd (n refl)
+frame_given (Ok (Some (Preamble delay))) n g ok p = absurd (false≢true (g (Preamble delay) refl))
+frame_given (Ok (Some (Lsf lsf))) n g ok p = one_is_some (setup lsf.0)
+frame_given (Ok (Some (Stream frame))) n g ok p = absurd (false≢true (g (Stream frame) refl))
+frame_given (Ok (Some (Packet frame))) n g ok p = one_is_some (piece frame)
+frame_given (Ok (Some EndOfTransmission)) n g ok p = other {s = TxEnding} refl p
+frame_given (Err WrongStore) n g ok p = absurd (omega (arith, ok))
+frame_given (Err OutOfBounds) n g ok p = absurd (omega (arith, ok))
 
-no_packet_lem : (a : StreamReadAnswer) (last : Bool) → is_packet (after_stream a last) ≡ false
-no_packet_lem NoFrame last = refl
-no_packet_lem StreamLsf last = refl
-no_packet_lem Frame last = pick_all (λ (k : State). is_packet k ≡ false) last TxStreamSentEndOfStream TxStream (λ t. refl) (λ t. refl)
-no_packet_lem NoStreamStore last = refl
-no_packet_lem NoStreamState last = refl
+no_packet_lem : (a : Result (Option ModulatorFrame) LentError) → is_packet (after_stream a) ≡ false
+no_packet_lem (Ok None) = refl
+no_packet_lem (Ok (Some (Preamble delay))) = refl
+no_packet_lem (Ok (Some (Lsf lsf))) = refl
+no_packet_lem (Ok (Some (Stream frame))) =
+    pick_all (λ (k : State). is_packet k ≡ false) frame.end_of_stream TxStreamSentEndOfStream TxStream (λ t. refl) (λ t. refl)
+no_packet_lem (Ok (Some (Packet frame))) = refl
+no_packet_lem (Ok (Some EndOfTransmission)) = refl
+no_packet_lem (Err e) = refl
 
 -- with no LSF pending it is a packet that somebody wants to send
 packet_wanted : (q : Sending) → wants_to_send q ≡ true → pick q.streams.pending TxStream TxPacket ≡ TxPacket → is_empty q.packets ≡ false
@@ -120,11 +127,11 @@ module _ (q : Sending) (c : Channel) (ps ss : List ℕ) where
   read_holds s h (none_waits off w) = h
   read_holds s h (held_back off w a) = h
   read_holds s h (is_keyed_up off w a) = packet_wanted q w
-  read_holds s h (in_stream e n) = other (no_packet_lem (next_frame q.streams ss).answer (next_frame q.streams ss).frame.end_of_stream)
+  read_holds s h (in_stream e n) = other (no_packet_lem (next_frame q.streams ss).answer)
   read_holds s h (stream_over e) = other {s = TxEnding} refl
   read_holds s h (is_in_packets e n) =
       let r = read_next q.packets ps in
-      λ p. frame_keeps_its_place q.packets ps (frame_given r.answer r refl (held_is_answered q.packets ps (h e)) n p)
+      λ p. frame_keeps_its_place q.packets ps (frame_given r.answer (held_is_answered q.packets ps (h e)) (gives_packets q.packets ps) n p)
   read_holds s h (ending on) = h
 
 -- ---- any calls

@@ -8,8 +8,9 @@ use lib.Dec.{eqb}
 use lib.ListN.{length}
 use borrow.Author.Tests.{eq-eqb, leb-true}
 use Rattle.choice.specs.Pick.{pick, pick_all, and_fst, and_snd, and_both}
-use Rattle.kiss_calls.specs.declared.WriteAnswer.{WriteAnswer}
-use Rattle.kiss_calls.specs.declared.WriteAnswer.TheVariants.{WrongStore, OutOfBounds}
+use Rattle.std.specs.Prelude.{Result, Ok, Err}
+use Rattle.kiss_calls.specs.declared.WriteError.{WriteError}
+use Rattle.kiss_calls.specs.declared.WriteError.TheVariants.{WrongStore, OutOfBounds}
 use Rattle.kiss_reader.specs.Reader.{STORE as READER}
 use Rattle.kiss_calls.specs.Calls.{sound_buffer, write_number}
 use Rattle.outgoing.specs.Message.{sound_message, host_read, host_number}
@@ -55,7 +56,7 @@ with_link w l =
 
 -- what holds of every refusal, and of what the link comes to in a sound TNC, holds of a write
 each_write : (w : World) (buf : List ℕ) (Q : TncWritten × List ℕ × List ℕ × List ℕ → Type 0)
-    → ((a : WriteAnswer) → Q (record { answer = a; count = 0; tnc = w.tnc; channel = w.channel }, w.reader, w.packets, w.streams))
+    → ((error : WriteError) → Q (record { answer = Err error; tnc = w.tnc; channel = w.channel }, w.reader, w.packets, w.streams))
     → (let r = written_at (link w) buf in Q (put_back w.tnc r.0, r.1, r.2, r.3)) → Q (writes w buf)
 unfolding tnc_written
 each_write w buf Q f d =
@@ -110,10 +111,10 @@ module _ (w : World) (s : Sound w) where
   -- what the reader of a sound world answers: 0 or 5
   pub write_fine : (buf : List ℕ) → (write_number (writes w buf).0.answer ≡ 7 → ⊥) × (write_number (writes w buf).0.answer ≡ 8 → ⊥)
   write_fine buf =
-      subst (λ (a : WriteAnswer). (write_number a ≡ 7 → ⊥) × (write_number a ≡ 8 → ⊥))
+      subst (λ (a : Result ℕ WriteError). (write_number a ≡ 7 → ⊥) × (write_number a ≡ 8 → ⊥))
       (sym (host.answer_is (link w) buf link_sound) ∙ ap (λ (r : TncWritten × List ℕ × List ℕ × List ℕ). r.0.answer) (comes_to buf))
-      (host.reader_answers (λ (a : WriteAnswer). (write_number a ≡ 7 → ⊥) × (write_number a ≡ 8 → ⊥)) (reader_box w.tnc.buffer w.reader) buf link_sound.its_reader
-      (λ e. absurd (omega (arith, e)), λ e. absurd (omega (arith, e))) (λ e. absurd (omega (arith, e)), λ e. absurd (omega (arith, e))))
+      (host.reader_answers (λ (a : Result ℕ WriteError). (write_number a ≡ 7 → ⊥) × (write_number a ≡ 8 → ⊥)) (reader_box w.tnc.buffer w.reader) buf link_sound.its_reader
+      (λ n. (λ e. absurd (omega (arith, e)), λ e. absurd (omega (arith, e)))) (λ e. absurd (omega (arith, e)), λ e. absurd (omega (arith, e))))
 
 -- ---- bytes to the host
 

@@ -25,7 +25,6 @@ use Rattle.state.specs.State.{transmits, time_reached, ending_at}
 use Rattle.tnc_air.specs.Promises.{lsf, packet}
 use Rattle.tnc_air.proofs.Kept as air
 use Rattle.tnc_stream.proofs.Kept as stream
-use Rattle.tx_frame.specs.declared.TxAnswer.{TxAnswer}
 use Rattle.tnc_modulator.specs.Modulator.{all_sound, tx_number}
 use Rattle.tnc_modulator.specs.Promises.{Box as TxBox, after_read, read_of, Sound as TxSound}
 use Rattle.tnc_modulator.proofs.Kept as modulator
@@ -141,7 +140,7 @@ abbrev pub tx : World → TxBox
 tx w = record { state = w.tnc.radio.state; sending = w.tnc.sending; channel = w.channel; packets = w.packets; streams = w.streams }
 
 -- what holds of every refusal, and of what the read comes to in a sound TNC, holds of a read
-pub each_given : (w : World) (Q : TncTx → Type 0) → ((a : TxAnswer) → Q (not_given a w.tnc w.channel)) → (sound_tnc w.tnc ≡ true → Q (put_given w.tnc (read_of (tx w)))) → Q (gives w)
+pub each_given : (w : World) (Q : TncTx → Type 0) → ((e : LentError) → Q (not_given e w.tnc w.channel)) → (sound_tnc w.tnc ≡ true → Q (put_given w.tnc (read_of (tx w)))) → Q (gives w)
 unfolding tnc_tx
 each_given w Q f d =
     pick_all Q (eqb (length w.packets) PACKETS) _ _

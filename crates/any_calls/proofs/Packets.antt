@@ -16,8 +16,6 @@ use Rattle.kiss_layout.specs.declared.KissError.TheVariants.{MalformedKissFrame 
 use Rattle.kiss_layout.specs.Read.{port_read, command_read}
 use Rattle.packets.specs.declared.PacketQueue.{PacketQueue}
 use Rattle.packets.specs.declared.PacketRead.{PacketRead}
-use Rattle.packets.specs.declared.ReadAnswer.{ReadAnswer}
-use Rattle.packets.specs.declared.ReadAnswer.TheVariants.{Nothing as NoPiece, Lsf as PacketLsf, Packet as Piece, End, WrongStore as NoPacketStore, OutOfBounds as NoPacketState}
 use Rattle.packets.specs.Frames.{Packet, AirFrame, frames_of, joined}
 use Rattle.packets.specs.Queue.{STORE as PACKETS, made_basic, made_full, pushed_basic, pushed_full, read_next, frames_in as frames_of_read}
 use Rattle.packets.specs.Promises.{Sound as PacketsSound}
@@ -37,7 +35,7 @@ use Rattle.host_frame.specs.Promises.{Box as HostBox, after as after_frame, Soun
 use Rattle.tx_frame.specs.declared.TxRead.{TxRead}
 use Rattle.tx_begin.specs.Begin.{keyed_up}
 use Rattle.tx_stream.specs.Stream.{stream_read}
-use Rattle.tx_packet.specs.Packet.{packet_answer, packet_read}
+use Rattle.tx_packet.specs.Packet.{packet_read}
 use Rattle.tnc_modulator.specs.Promises.{read_of}
 use Rattle.tnc_modulator.proofs.Outcomes.{sound_packets_lem, Passed, none_waits, held_back, is_keyed_up, in_stream, stream_over, is_in_packets, ending, sound_outcome}
 use Rattle.tnc_core.specs.declared.Tnc.{Tnc}
@@ -45,7 +43,7 @@ use Rattle.tnc_transmit.specs.declared.TncTx.{TncTx}
 use Rattle.tnc_transmit.specs.Calls.{put_given, tnc_tx}
 use Rattle.any_calls.specs.Calls.{World, Call, write_kiss, read_kiss, handle_lsf, handle_packet, handle_stream, set_data_carrier_detect, set_now, set_tx_end_time, ptt, read_tx_frame, writes, gives, after, run}
 use Rattle.any_calls.specs.Promises.{Sound, AllTyped}
-use Rattle.any_calls.specs.Queues.{of_data, packets_in, brought_by, host_of, frames_after, brings, packet_frame, in_packets, read_in, over_all}
+use Rattle.any_calls.specs.Queues.{of_data, packets_in, brought_by, host_of, frames_after, brings, in_packets, read_in, over_all}
 use Rattle.any_calls.proofs.Kept.{tx, tx_sound}
 use Rattle.any_calls.proofs.Flow as flow
 
@@ -78,27 +76,19 @@ unfolding tnc_tx pick
 gives_as w s = rw (eq-eqb (length w.packets) PACKETS s.its_packets, eq-eqb (length w.streams) STREAMS s.its_streams, s.its_tnc) refl
 
 -- where the answer is no frame of a packet, nothing is read of one
-no_frame_lem : (k : Transmission) (r : TncTx) → packet_frame r.answer r ≡ [] → in_packets k r ≡ []
+no_frame_lem : (k : Transmission) (r : TncTx) → frames_of_read r.answer ≡ [] → in_packets k r ≡ []
 no_frame_lem Receiving r e = refl
 no_frame_lem InStream r e = refl
 no_frame_lem StreamSent r e = refl
 no_frame_lem InPacket r e = e
 no_frame_lem Ending r e = refl
 
-pub frame_as : (a : ReadAnswer) (t : Tnc) (r : TxRead) (p : PacketRead) → r.lsf ≡ p.lsf → r.packet ≡ p.frame → packet_frame (packet_answer a) (put_given t r) ≡ frames_of_read a p
-frame_as NoPiece t r p e f = refl
-frame_as PacketLsf t r p e f = rw e refl
-frame_as Piece t r p e f = rw f refl
-frame_as End t r p e f = refl
-frame_as NoPacketStore t r p e f = refl
-frame_as NoPacketState t r p e f = refl
-
 module _ (t : Tnc) (q : Sending) (c : Channel) (ps ss : List ℕ) (sound : PacketsSound q.packets ps) (four : Four q.packets) where
   abbrev Taken : State → TxRead → Type 0
   Taken s r = (left_of q.packets ps ≡ in_packets (transmission_of s) (put_given t r) ++ left_of r.sending.packets ps) × Four r.sending.packets
 
   -- nothing is read and the queue stands
-  none : (s : State) (r : TxRead) → packet_frame r.answer (put_given t r) ≡ [] → r.sending.packets ≡ q.packets → Taken s r
+  none : (s : State) (r : TxRead) → frames_of_read r.answer ≡ [] → r.sending.packets ≡ q.packets → Taken s r
   none s r e f =
       rw (no_frame_lem (transmission_of s) (put_given t r) e, f) (refl, four)
 
@@ -112,7 +102,7 @@ module _ (t : Tnc) (q : Sending) (c : Channel) (ps ss : List ℕ) (sound : Packe
   taken s (is_in_packets e n) =
       let r = read_next q.packets ps in
       subst (λ (k : State). Taken k (packet_read q c r)) (sym e) (
-        read_takes q.packets ps sound ∙ ap (λ (fs : List AirFrame). fs ++ left_of r.queue ps) (sym (frame_as r.answer t (packet_read q c r) r refl refl)),
+        read_takes q.packets ps sound,
         (four_stay_four q.packets ps four).1,
       )
   taken s (ending on) = none s _ refl refl

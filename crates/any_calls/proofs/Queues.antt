@@ -12,8 +12,13 @@ use Rattle.protocol.specs.declared.StreamFrame.{StreamFrame}
 use Rattle.kiss_calls.specs.Calls.{sound_buffer}
 use Rattle.kiss_calls.proofs.Boxes.{new_sound}
 use Rattle.packets.specs.declared.PacketRead.{PacketRead}
-use Rattle.packets.specs.declared.ReadAnswer.{ReadAnswer}
-use Rattle.packets.specs.declared.ReadAnswer.TheVariants.{Nothing as NoPiece, Lsf as PacketLsf, Packet as Piece, End, WrongStore as NoPacketStore, OutOfBounds as NoPacketState}
+use Rattle.std.specs.Prelude.{Result, Ok, Err, Option, Some, None}
+use Rattle.room.specs.declared.LentError.{LentError}
+use Rattle.room.specs.declared.LentError.TheVariants.{WrongStore, OutOfBounds}
+use Rattle.protocol.specs.declared.ModulatorFrame.{ModulatorFrame}
+use Rattle.protocol.specs.declared.ModulatorFrame.TheVariants.{Preamble, Lsf, Stream, Packet, EndOfTransmission}
+use Rattle.packets.specs.Promises.{of_packets}
+use Rattle.packets.proofs.Kept.{gives_packets}
 use Rattle.packets.specs.Frames.{AirFrame, setup, piece, joined}
 use Rattle.packets.specs.Queue.{is_empty, read_next, frames_in}
 use Rattle.packets.specs.Promises.{Sound as PacketsSound}
@@ -25,9 +30,8 @@ use Rattle.streams.specs.Promises.{count, frames_from, waiting}
 use Rattle.state.specs.declared.State.TheVariants.{TxStreamSentEndOfStream, TxPacket}
 use Rattle.state.specs.declared.Transmission.{Transmission}
 use Rattle.state.specs.State.{transmission_of}
-use Rattle.tx_frame.specs.declared.TxAnswer.TheVariants.{EndOfTransmission}
 use Rattle.tx_frame.specs.declared.TxRead.{TxRead}
-use Rattle.tx_packet.specs.Packet.{packet_answer, packet_given, packet_read}
+use Rattle.tx_packet.specs.Packet.{packet_given, packet_read}
 use Rattle.tnc_modulator.specs.Modulator.{PACKETS, STREAMS, tx_read, tx_number}
 use Rattle.tnc_modulator.specs.Promises.{read_of, Spent, stream_spent, packets_spent}
 use Rattle.tnc_modulator.proofs.Kept as modulator
@@ -39,10 +43,10 @@ use Rattle.tnc_transmit.specs.declared.TncTx.{TncTx}
 use Rattle.tnc_transmit.specs.Calls.{put_given}
 use Rattle.any_calls.specs.Calls.{World, Call, read_tx_frame, gives, run}
 use Rattle.any_calls.specs.Promises.{Sound, AllTyped}
-use Rattle.any_calls.specs.Queues.{packet_frame, in_packets, read_in}
+use Rattle.any_calls.specs.Queues.{in_packets, read_in}
 use Rattle.any_calls.specs.QueueRule.{New, NeverOutOfBounds, accepted, frames_read, QueueRule, EndWhenUsedUp, SomethingLeftIsGiven, EndOnceUsedUp, streams_accepted, stream_frames_read, StreamRule, Ends, EndBehindTheLast}
 use Rattle.any_calls.proofs.Kept.{tx, tx_sound, run_sound, any_calls_stay_sound}
-use Rattle.any_calls.proofs.Packets.{gives_as, frame_as, packets_flow}
+use Rattle.any_calls.proofs.Packets.{gives_as, packets_flow}
 use Rattle.any_calls.proofs.Streams.{queue_box, streams_flow}
 use Rattle.any_calls.proofs.Ended.{is_sent, sent_ends}
 use Rattle.any_calls.proofs.Held.{is_packet, held}
@@ -103,7 +107,7 @@ module _ (w : World) (s : Sound w) where
   queue_sound : PacketsSound w.tnc.sending.packets w.packets
   queue_sound = record { its_store = s.its_packets; its_state = sound_packets_lem (tx w).state (tx w).sending (tx w).channel (tx_sound w s).its_state }
 
-  spent : (gives w).answer ≡ EndOfTransmission → Spent (tx w)
+  spent : (gives w).answer ≡ Ok (Some EndOfTransmission) → Spent (tx w)
   spent e = (modulator.end_only_when_spent (tx w) (ap (λ (r : TncTx). r.answer) (gives_as w s) ∙ e)).0
 
   -- a read in a packet transmission is the queue's
@@ -114,10 +118,8 @@ module _ (w : World) (s : Sound w) where
   reads_of_it : w.tnc.radio.state ≡ TxPacket → read_in in_packets w read_tx_frame ≡ given (read_next w.tnc.sending.packets w.packets)
   unfolding read_in
   reads_of_it e =
-      let r = read_next w.tnc.sending.packets w.packets in
       ap (λ (k : Transmission). in_packets k (gives w)) (ap transmission_of e)
-      ∙ ap (λ (r : TncTx). packet_frame r.answer r) (sym (gives_as w s) ∙ ap (put_given w.tnc) (is_in_packets e))
-      ∙ frame_as r.answer w.tnc (packet_read w.tnc.sending w.channel r) r refl refl
+      ∙ ap (λ (r : TncTx). frames_in r.answer) (sym (gives_as w s) ∙ ap (put_given w.tnc) (is_in_packets e))
 
 pub end_when_used_up : EndWhenUsedUp
 end_when_used_up w cs n d p e = by (spent (run w cs) s e)
@@ -155,19 +157,21 @@ module _ (w : World) (s : Sound w) (p : w.tnc.radio.state ≡ TxPacket) (held_on
     takes : given next ++ left_of next.queue w.packets ≡ []
     takes = sym (read_takes w.tnc.sending.packets w.packets (queue_sound w s)) ∙ none
 
-    answered : tx_number (packet_answer next.answer) ≡ 0
+    answered : tx_number next.answer ≡ 0
     answered = ap (λ (r : TxRead). tx_number r.answer) (sym (is_in_packets w s p)) ∙ modulator.sound_is_answered (tx w) (tx_sound w s)
 
     -- what is left is none, so the answer is no frame; a place is held, so it is not nothing
-    ends : (a : ReadAnswer) → next.answer ≡ a → packet_answer a ≡ EndOfTransmission
-    ends NoPiece e = absurd (held_is_answered w.tnc.sending.packets w.packets held_on e)
-    ends PacketLsf e = absurd (not_none (setup next.lsf.0) _ (ap (λ (k : ReadAnswer). frames_in k next ++ left_of next.queue w.packets) (sym e) ∙ takes))
-    ends Piece e = absurd (not_none (piece next.frame) _ (ap (λ (k : ReadAnswer). frames_in k next ++ left_of next.queue w.packets) (sym e) ∙ takes))
-    ends End e = refl
-    ends NoPacketStore e = absurd (omega (arith, sym (ap (λ (k : ReadAnswer). tx_number (packet_answer k)) e) ∙ answered))
-    ends NoPacketState e = absurd (omega (arith, sym (ap (λ (k : ReadAnswer). tx_number (packet_answer k)) e) ∙ answered))
+    ends : (a : Result (Option ModulatorFrame) LentError) → next.answer ≡ a → a ≡ Ok (Some EndOfTransmission)
+    ends (Ok None) e = absurd (held_is_answered w.tnc.sending.packets w.packets held_on e)
+    ends (Ok (Some (Preamble delay))) e = absurd (false≢true (gives_packets w.tnc.sending.packets w.packets (Preamble delay) e))
+    ends (Ok (Some (Lsf lsf))) e = absurd (not_none (setup lsf.0) _ (ap (λ (k : Result (Option ModulatorFrame) LentError). frames_in k ++ left_of next.queue w.packets) (sym e) ∙ takes))
+    ends (Ok (Some (Stream frame))) e = absurd (false≢true (gives_packets w.tnc.sending.packets w.packets (Stream frame) e))
+    ends (Ok (Some (Packet frame))) e = absurd (not_none (piece frame) _ (ap (λ (k : Result (Option ModulatorFrame) LentError). frames_in k ++ left_of next.queue w.packets) (sym e) ∙ takes))
+    ends (Ok (Some EndOfTransmission)) e = refl
+    ends (Err WrongStore) e = absurd (omega (arith, sym (ap tx_number e) ∙ answered))
+    ends (Err OutOfBounds) e = absurd (omega (arith, sym (ap tx_number e) ∙ answered))
 
-    end_given : (gives w).answer ≡ EndOfTransmission
+    end_given : (gives w).answer ≡ Ok (Some EndOfTransmission)
     end_given = sym (ap (λ (r : TncTx). r.answer) (gives_as w s)) ∙ ap (λ (r : TxRead). r.answer) (is_in_packets w s p) ∙ ends next.answer refl
 
 pub end_once_used_up : EndOnceUsedUp

@@ -10,8 +10,6 @@ use Rattle.protocol.specs.declared.StreamFrame.{StreamFrame}
 use Rattle.packets.specs.declared.PacketQueue.{PacketQueue}
 use Rattle.packets.specs.Queue.{read_next as next_piece}
 use Rattle.streams.specs.declared.StreamQueue.{StreamQueue}
-use Rattle.streams.specs.declared.StreamReadAnswer.{StreamReadAnswer}
-use Rattle.streams.specs.declared.StreamReadAnswer.TheVariants.{Nothing as NoFrame, Lsf as StreamLsf, Frame, WrongStore as NoStreamStore, OutOfBounds as NoStreamState}
 use Rattle.streams.specs.Queue.{pushed, read_next}
 use Rattle.streams.specs.Promises.{Box, frame_in, waiting, added_by, given_by, Sound as StreamsSound}
 use Rattle.streams.proofs.Kept.{push_waiting, read_waiting}
@@ -25,7 +23,7 @@ use Rattle.host_record.specs.Host.{sound_host}
 use Rattle.host_frame.specs.Promises.{Box as HostBox, Sound as HostSound}
 use Rattle.tx_frame.specs.declared.TxRead.{TxRead}
 use Rattle.tx_begin.specs.Begin.{keyed_up}
-use Rattle.tx_stream.specs.Stream.{stream_answer, stream_read}
+use Rattle.tx_stream.specs.Stream.{stream_read}
 use Rattle.tx_packet.specs.Packet.{packet_read}
 use Rattle.tnc_modulator.proofs.Outcomes.{Passed, none_waits, held_back, is_keyed_up, in_stream, stream_over, is_in_packets, ending, sound_outcome}
 use Rattle.tnc_core.specs.declared.Tnc.{Tnc}
@@ -33,7 +31,7 @@ use Rattle.tnc_transmit.specs.declared.TncTx.{TncTx}
 use Rattle.tnc_transmit.specs.Calls.{put_given}
 use Rattle.any_calls.specs.Calls.{World, Call, gives, run}
 use Rattle.any_calls.specs.Promises.{Sound, AllTyped}
-use Rattle.any_calls.specs.Queues.{of_data, streams_in, brings, stream_frame, in_streams, read_in, over_all}
+use Rattle.any_calls.specs.Queues.{of_data, streams_in, brings, in_streams, read_in, over_all}
 use Rattle.any_calls.proofs.Kept.{tx, tx_sound}
 use Rattle.any_calls.proofs.Flow as flow
 use Rattle.any_calls.proofs.Packets.{gives_as}
@@ -61,25 +59,18 @@ queue_sound x s = record { its_store = s.its_streams; its_state = and_snd _ _ (a
 -- ---- a read for the modulator
 
 -- where the answer is no frame of a stream, nothing is read of one
-pub no_frame_lem : (k : Transmission) (r : TncTx) → stream_frame r.answer r ≡ [] → in_streams k r ≡ []
+pub no_frame_lem : (k : Transmission) (r : TncTx) → given_by r.answer ≡ [] → in_streams k r ≡ []
 no_frame_lem Receiving r e = refl
 no_frame_lem InStream r e = e
 no_frame_lem StreamSent r e = refl
 no_frame_lem InPacket r e = refl
 no_frame_lem Ending r e = refl
 
-frame_as : (a : StreamReadAnswer) (t : Tnc) (r : TxRead) (f : StreamFrame) → r.stream ≡ f → stream_frame (stream_answer a) (put_given t r) ≡ given_by a f
-frame_as NoFrame t r f e = refl
-frame_as StreamLsf t r f e = refl
-frame_as Frame t r f e = rw e refl
-frame_as NoStreamStore t r f e = refl
-frame_as NoStreamState t r f e = refl
-
 module _ (t : Tnc) (q : Sending) (c : Channel) (ps ss : List ℕ) where
   abbrev Taken : State → TxRead → Type 0
   Taken s r = waiting (queue_box q.streams ss) ≡ in_streams (transmission_of s) (put_given t r) ++ waiting (queue_box r.sending.streams ss)
 
-  none : (s : State) (r : TxRead) → stream_frame r.answer (put_given t r) ≡ [] → r.sending.streams ≡ q.streams → Taken s r
+  none : (s : State) (r : TxRead) → given_by r.answer ≡ [] → r.sending.streams ≡ q.streams → Taken s r
   none s r e f = rw (no_frame_lem (transmission_of s) (put_given t r) e, f) refl
 
   taken : (s : State) {r : TxRead} → Passed s q c ps ss r → Taken s r
@@ -90,8 +81,7 @@ module _ (t : Tnc) (q : Sending) (c : Channel) (ps ss : List ℕ) where
   taken s (in_stream e n) =
       let r = read_next q.streams ss in
       subst (λ (k : State). Taken k (stream_read q c r)) (sym e)
-      (read_waiting (queue_box q.streams ss)
-      ∙ ap (λ (fs : List StreamFrame). fs ++ waiting (queue_box r.queue ss)) (sym (frame_as r.answer t (stream_read q c r) r.frame refl)))
+      (read_waiting (queue_box q.streams ss))
   taken s (stream_over e) = none s _ refl refl
   taken s (is_in_packets e n) = subst (λ (k : State). Taken k (packet_read q c (next_piece q.packets ps))) (sym e) refl
   taken s (ending on) = none s _ refl refl

@@ -1,6 +1,7 @@
 -- Document 01's queue rule, and the same for the stream queue, over any calls from a new TNC. Each is proved in proofs/Queues.antt. Assumes nothing.
-use Rattle.std.specs.Prelude.{true, ◌≢◌, ◌≡◌, List, [], ◌∷◌, ◌++◌, length}
+use Rattle.std.specs.Prelude.{true, ◌≢◌, ◌≡◌, List, [], ◌∷◌, ◌++◌, length, Ok, Some}
 use Rattle.protocol.specs.declared.StreamFrame.{StreamFrame}
+use Rattle.protocol.specs.declared.ModulatorFrame.TheVariants.{EndOfTransmission}
 use Rattle.channel.specs.Access.{new_channel}
 use Rattle.kiss_reader.specs.Reader.{STORE as READER}
 use Rattle.packets.specs.Frames.{Packet, AirFrame, joined}
@@ -8,7 +9,6 @@ use Rattle.packets.specs.Queue.{STORE as PACKETS}
 use Rattle.streams.specs.Queue.{STORE as STREAMS}
 use Rattle.state.specs.declared.State.TheVariants.{TxPacket}
 use Rattle.radio.specs.Radio.{RX, MESSAGE}
-use Rattle.tx_frame.specs.declared.TxAnswer.TheVariants.{EndOfTransmission}
 use Rattle.tnc_core.specs.Tnc.{new_tnc}
 use Rattle.any_calls.specs.Calls.{World, Call, read_tx_frame, gives, number, run}
 use Rattle.any_calls.specs.Promises.{Typed, AllTyped}
@@ -44,20 +44,20 @@ QueueRule = (w : World) (cs : List Call) → New w → AllTyped cs → (rest : L
 -- an end of transmission there comes only when that list is used up
 abbrev pub EndWhenUsedUp : Type 0
 EndWhenUsedUp =
-    (w : World) (cs : List Call) → New w → AllTyped cs → (run w cs).tnc.radio.state ≡ TxPacket → (gives (run w cs)).answer ≡ EndOfTransmission
+    (w : World) (cs : List Call) → New w → AllTyped cs → (run w cs).tnc.radio.state ≡ TxPacket → (gives (run w cs)).answer ≡ Ok (Some EndOfTransmission)
     → joined (accepted w cs) ≡ frames_read w cs
 
 -- a read in a packet transmission with something left gives a frame, and never an end
 abbrev pub SomethingLeftIsGiven : Type 0
 SomethingLeftIsGiven =
     (w : World) (cs : List Call) → New w → AllTyped cs → (run w cs).tnc.radio.state ≡ TxPacket → joined (accepted w cs) ≢ frames_read w cs
-    → (read_in in_packets (run w cs) read_tx_frame ≢ []) × ((gives (run w cs)).answer ≢ EndOfTransmission)
+    → (read_in in_packets (run w cs) read_tx_frame ≢ []) × ((gives (run w cs)).answer ≢ Ok (Some EndOfTransmission))
 
 -- and with nothing left it gives the end: nobody stays keyed with nothing to send
 abbrev pub EndOnceUsedUp : Type 0
 EndOnceUsedUp =
     (w : World) (cs : List Call) → New w → AllTyped cs → (run w cs).tnc.radio.state ≡ TxPacket → joined (accepted w cs) ≡ frames_read w cs
-    → (gives (run w cs)).answer ≡ EndOfTransmission
+    → (gives (run w cs)).answer ≡ Ok (Some EndOfTransmission)
 
 -- ---- streams
 
@@ -81,5 +81,5 @@ pub record Ends (fs : List StreamFrame) : Type 0 where
 -- an end of transmission that ends no packet transmission comes only behind a frame marked as last
 abbrev pub EndBehindTheLast : Type 0
 EndBehindTheLast =
-    (w : World) (cs : List Call) → New w → AllTyped cs → (run w cs).tnc.radio.state ≢ TxPacket → (gives (run w cs)).answer ≡ EndOfTransmission
+    (w : World) (cs : List Call) → New w → AllTyped cs → (run w cs).tnc.radio.state ≢ TxPacket → (gives (run w cs)).answer ≡ Ok (Some EndOfTransmission)
     → Ends (stream_frames_read w cs)

@@ -7,21 +7,18 @@ use Rattle.kiss_layout.specs.declared.KissError.{KissError}
 use Rattle.kiss_layout.specs.declared.KissCommand.{KissCommand}
 use Rattle.kiss_layout.specs.declared.KissError.TheVariants.{MalformedKissFrame as NoPort, MalformedKissFrame as NoCommand, UnsupportedKissCommand as NoSuch}
 use Rattle.kiss_layout.specs.Read.{port_read, command_read}
-use Rattle.kiss_calls.specs.declared.WriteAnswer.{WriteAnswer}
-use Rattle.kiss_calls.specs.declared.WriteAnswer.TheVariants.{Done, Full, WrongStore as NoRoom, OutOfBounds as NoState}
+use Rattle.kiss_calls.specs.declared.WriteError.{WriteError}
 use Rattle.kiss_calls.specs.Promises.{after_written}
-use Rattle.packets.specs.Frames.{Packet, AirFrame, setup, piece}
-use Rattle.packets.specs.Queue.{made_basic, made_full, pushed_basic, pushed_full}
+use Rattle.packets.specs.Frames.{Packet, AirFrame}
+use Rattle.packets.specs.Queue.{made_basic, made_full, pushed_basic, pushed_full, frames_in}
 use Rattle.packet_rule.specs.Left.{accepted_by}
 use Rattle.streams.specs.Queue.{pushed}
-use Rattle.streams.specs.Promises.{added_by, frame_in}
+use Rattle.streams.specs.Promises.{added_by, given_by, frame_in}
 use Rattle.state.specs.declared.Transmission.{Transmission}
 use Rattle.state.specs.declared.Transmission.TheVariants.{Receiving, Stream as InStream, StreamSent, Packet as InPacket, Ending}
 use Rattle.state.specs.State.{transmission_of}
 use Rattle.host_frame.specs.Promises.{Box as HostBox, after as after_frame}
 use Rattle.tnc_drain.specs.Drain.{reader_box, host_box, frames_held}
-use Rattle.tx_frame.specs.declared.TxAnswer.{TxAnswer}
-use Rattle.tx_frame.specs.declared.TxAnswer.TheVariants.{Nothing, Preamble, Lsf, Stream, Packet as Piece, EndOfTransmission, WrongStore, OutOfBounds}
 use Rattle.tnc_transmit.specs.declared.TncTx.{TncTx}
 use Rattle.any_calls.specs.Calls.{World, Call, write_kiss, read_kiss, handle_lsf, handle_packet, handle_stream, set_data_carrier_detect, set_now, set_tx_end_time, ptt, read_tx_frame, writes, gives, after}
 
@@ -56,11 +53,9 @@ abbrev pub host_of : World → HostBox
 host_of w = host_box (record { sending = w.tnc.sending; channel = w.channel }) w.packets w.streams
 
 -- the frames that a write completes; a write that is refused completes none
-abbrev pub frames_after : WriteAnswer → World → List ℕ → List (List ℕ)
-frames_after Done w buf = frames_held (after_written (reader_box w.tnc.buffer w.reader) buf)
-frames_after Full w buf = []
-frames_after NoRoom w buf = []
-frames_after NoState w buf = []
+abbrev pub frames_after : Result ℕ WriteError → World → List ℕ → List (List ℕ)
+frames_after (Ok n) w buf = frames_held (after_written (reader_box w.tnc.buffer w.reader) buf)
+frames_after (Err error) w buf = []
 
 -- what a call brings into a queue
 unfoldable pub brings : {A : Type 0} → (HostBox → List ℕ → List A) → World → Call → List A
@@ -77,37 +72,17 @@ brings g w read_tx_frame = []
 
 -- ---- to the modulator: the frames of a transmission, preambles and ends removed
 
-abbrev pub packet_frame : TxAnswer → TncTx → List AirFrame
-packet_frame Nothing r = []
-packet_frame Preamble r = []
-packet_frame Lsf r = setup r.lsf.0 ∷ []
-packet_frame Stream r = []
-packet_frame Piece r = piece r.packet ∷ []
-packet_frame EndOfTransmission r = []
-packet_frame WrongStore r = []
-packet_frame OutOfBounds r = []
-
-abbrev pub stream_frame : TxAnswer → TncTx → List StreamFrame
-stream_frame Nothing r = []
-stream_frame Preamble r = []
-stream_frame Lsf r = []
-stream_frame Stream r = r.stream ∷ []
-stream_frame Piece r = []
-stream_frame EndOfTransmission r = []
-stream_frame WrongStore r = []
-stream_frame OutOfBounds r = []
-
 -- a read in a packet transmission, and in a stream transmission
 abbrev pub in_packets : Transmission → TncTx → List AirFrame
 in_packets Receiving r = []
 in_packets InStream r = []
 in_packets StreamSent r = []
-in_packets InPacket r = packet_frame r.answer r
+in_packets InPacket r = frames_in r.answer
 in_packets Ending r = []
 
 abbrev pub in_streams : Transmission → TncTx → List StreamFrame
 in_streams Receiving r = []
-in_streams InStream r = stream_frame r.answer r
+in_streams InStream r = given_by r.answer
 in_streams StreamSent r = []
 in_streams InPacket r = []
 in_streams Ending r = []

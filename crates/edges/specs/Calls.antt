@@ -4,7 +4,7 @@ use Rattle.std.specs.Prelude.{ℕ, false, ◌≡◌, List, [], replicate, Ok, Er
 use Rattle.channel.specs.declared.Channel.{Channel}
 use Rattle.channel.specs.Access.{new_channel}
 use Rattle.kiss_calls.specs.declared.KissBuffer.{KissBuffer}
-use Rattle.kiss_calls.specs.declared.WriteAnswer.TheVariants.{Done, WrongStore}
+use Rattle.kiss_calls.specs.declared.WriteError.TheVariants.{WrongStore}
 use Rattle.radio.specs.declared.AirError.TheVariants.{WrongStore as NoAirStore}
 use Rattle.host_record.specs.declared.Host.{Host}
 use Rattle.host_record.specs.Host.{new_host}
@@ -29,9 +29,9 @@ pub record Calls : Type 0 where
   pub message_store_not_tested : ((t : Tnc) → hears_by t 855 855 ≡ Err NoAirStore) × (hears_by new_tnc 855 1713 ≡ Ok tt)
   -- a lent store not of its stated length is 7: the streams' has 230 bytes, not the packets' 3,420
   pub stream_store_not_looked_at :
-      ((b : KissBuffer) (h : Host) (buf : List ℕ) → (kiss_written b h buf (replicate 1713 0) (replicate 3420 0) (replicate 3420 0)).0.answer ≡ WrongStore)
-      × ((kiss_written new_tnc.buffer new_host [] (replicate 1713 0) (replicate 3420 0) (replicate 230 0)).0.answer ≡ Done)
+      ((b : KissBuffer) (h : Host) (buf : List ℕ) → (kiss_written b h buf (replicate 1713 0) (replicate 3420 0) (replicate 3420 0)).0.answer ≡ Err WrongStore)
+      × ((kiss_written new_tnc.buffer new_host [] (replicate 1713 0) (replicate 3420 0) (replicate 230 0)).0.answer ≡ Ok 0)
   -- a lent store not of its stated length is 7: the reader's has 1,713 bytes, not the packets' 3,420
   pub reader_store_of_3420 :
-      ((t : Tnc) (c : Channel) (buf : List ℕ) → (tnc_written t c buf (replicate 3420 0) (replicate 3420 0) (replicate 230 0)).0.answer ≡ WrongStore)
-      × ((tnc_written new_tnc new_channel [] (replicate 1713 0) (replicate 3420 0) (replicate 230 0)).0.answer ≡ Done)
+      ((t : Tnc) (c : Channel) (buf : List ℕ) → (tnc_written t c buf (replicate 3420 0) (replicate 3420 0) (replicate 230 0)).0.answer ≡ Err WrongStore)
+      × ((tnc_written new_tnc new_channel [] (replicate 1713 0) (replicate 3420 0) (replicate 230 0)).0.answer ≡ Ok 0)

@@ -1,6 +1,6 @@
 -- Frames and bytes from the host, and the reading of a message to it, from document 01's "From the host", "The reader's meaning" and "Bounds for 8" and m17core's read_kiss.
 -- Each fact rules out the wrong answer that it is named after. Assumes nothing.
-use Rattle.std.specs.Prelude.{ℕ, true, false, ◌≡◌, List, [], ◌∷◌, ◌++◌, length, replicate}
+use Rattle.std.specs.Prelude.{ℕ, true, false, ◌≡◌, List, [], ◌∷◌, ◌++◌, length, replicate, Ok}
 use Rattle.outgoing.specs.Message.{host_read}
 use Rattle.host_record.specs.declared.Host.{Host}
 use Rattle.host_record.specs.Host.{new_host}
@@ -18,7 +18,7 @@ pub record FromHost : Type 0 where
   -- FullDuplex too: any byte but 0 is on
   pub duplex_turned : ((duplex_of (setting_in (0xC0 ∷ 0x05 ∷ 0x02 ∷ 0xC0 ∷ [])) new_host).channel.duplex ≡ true) × ((duplex_of (setting_in (0xC0 ∷ 0x05 ∷ 0x00 ∷ 0xC0 ∷ [])) new_host).channel.duplex ≡ false)
   -- a write answers the bytes taken
-  pub claims_no_byte : (reader packets streams : List ℕ) → length reader ≡ 1713 → length packets ≡ 3420 → length streams ≡ 230 → (kiss_written (record { filled = 0; taken = false }) new_host (0x55 ∷ []) reader packets streams).0.count ≡ 1
+  pub claims_no_byte : (reader packets streams : List ℕ) → length reader ≡ 1713 → length packets ≡ 3420 → length streams ≡ 230 → (kiss_written (record { filled = 0; taken = false }) new_host (0x55 ∷ []) reader packets streams).0.answer ≡ Ok 1
 
 pub record ToHost : Type 0 where
   -- a message that was read to its end is gone

@@ -2,9 +2,9 @@
 #![tactic(auto)]
 
 ghost use Rattle.std.specs.Prelude.{◌≡◌};
-ghost use Rattle.event_answer.specs.Answer.{on_flag, answered, refused};
+ghost use Rattle.std.specs.Result.{MatchResult};
+ghost use Rattle.event_answer.specs.Answer.{answered, refused};
 
-use room::LentError;
 use channel::Channel;
 use tnc_core::Tnc;
 
@@ -25,6 +25,14 @@ pub struct Applied {
     pub after: EventBox,
 }
 
+// How far the events of an input were taken: the place behind them, the place behind their lines, and what they left.
+#[derive(Clone, Copy)]
+pub struct Taken {
+    pub used: usize,
+    pub wrote: usize,
+    pub after: EventBox,
+}
+
 // The most bytes that an event prints: 09 asks for at most 255.
 pub const MOST_BYTES: usize = 255;
 
@@ -35,24 +43,21 @@ pub fn answer(number: u8, count: usize, tnc: Tnc, channel: Channel) -> Applied
     ensures { result ≡ answered number count tnc channel }
 {
     Applied {
-        number: number,
-        count: count,
-        ptt: is_on(tnc.ptt()),
-        after: EventBox {
-            tnc: tnc,
-            channel: channel,
-        },
+        number,
+        count,
+        // Of a state out of bounds there is no PTT to tell, and 0 is printed. From a new TNC there is none.
+        ptt: tnc.ptt().unwrap_or(false),
+        after: EventBox { tnc, channel },
     }
 }
 
-// Of a state out of bounds there is no PTT to tell, and 0 is printed. From a new TNC there is none.
-fn is_on(ptt: Result<bool, LentError>) -> bool
-    ensures { result ≡ on_flag ptt }
+// Document 01's number of what a call of the TNC answers.
+pub fn number_of<T: Drop, E: Into<u8>>(answer: Result<T, E>) -> u8
+    ensures { MatchResult answer (λ _. result ≡ 0) (λ error. E.converts error result) }
 {
-    match ptt {
-        Ok(false) => return false,
-        Ok(true) => return true,
-        Err(LentError::OutOfBounds) => return false,
+    match answer {
+        Ok(_) => 0,
+        Err(error) => error.into(),
     }
 }
 

@@ -5,7 +5,7 @@ use mathlib.Core.Option.{Option, none, some}
 use native.Mathlib.Omega.{arith}
 use lib.ListN.{length, length-take}
 use Rattle.choice.specs.Pick.{pick_all}
-use Rattle.std.specs.Prelude.{Result, Ok, Err, Bool, false, true}
+use Rattle.std.specs.Prelude.{Result, Ok, Err, Option, Some, None, Bool, false, true}
 use Rattle.radio.specs.declared.AirError.{AirError}
 use Rattle.radio.specs.declared.AirError.TheVariants.{OutOfRange as AirRange, WrongStore as AirStore, OutOfBounds as AirBounds}
 use Rattle.channel.specs.declared.ChannelError.{ChannelError}
@@ -13,13 +13,13 @@ use Rattle.channel.specs.declared.ChannelError.TheVariants.{OutOfRange as SetRan
 use Rattle.room.specs.declared.LentError.{LentError}
 use Rattle.room.specs.declared.LentError.TheVariants.{WrongStore as LentStore, OutOfBounds as LentBounds}
 use Rattle.channel.specs.Access.{carrier_set, set_number}
-use Rattle.kiss_calls.specs.declared.WriteAnswer.{WriteAnswer}
-use Rattle.kiss_calls.specs.declared.WriteAnswer.TheVariants.{Done as Written, Full, WrongStore as WriteStore, OutOfBounds as WriteBounds}
+use Rattle.kiss_calls.specs.declared.WriteError.{WriteError}
+use Rattle.kiss_calls.specs.declared.WriteError.TheVariants.{Full, WrongStore as WriteStore, OutOfBounds as WriteBounds}
 use Rattle.kiss_calls.specs.Calls.{write_number}
 use Rattle.outgoing.specs.Message.{host_number}
 use Rattle.radio.specs.Radio.{air_number}
-use Rattle.tx_frame.specs.declared.TxAnswer.{TxAnswer}
-use Rattle.tx_frame.specs.declared.TxAnswer.TheVariants.{Nothing, Preamble, Lsf, Stream, Packet, EndOfTransmission, WrongStore, OutOfBounds}
+use Rattle.protocol.specs.declared.ModulatorFrame.{ModulatorFrame}
+use Rattle.protocol.specs.declared.ModulatorFrame.TheVariants.{Preamble, Lsf, Stream, Packet, EndOfTransmission}
 use Rattle.tnc_modulator.specs.Modulator.{kind_number}
 use Rattle.tnc_core.specs.Tnc.{ptt_of, ptt_number}
 use Rattle.tnc_clock.specs.Clock.{now_set, end_time_set}
@@ -30,11 +30,11 @@ use Rattle.event_step.specs.Step.{Turn, call_of, number_of, made, not_made, perh
 use Rattle.event_block.specs.Spot.{shown}
 use Rattle.event_block.specs.Block.{line_for}
 
-write_digit : (a : WriteAnswer) → write_number a ≤ 9
-write_digit Written = omega arith
-write_digit Full = omega arith
-write_digit WriteStore = omega arith
-write_digit WriteBounds = omega arith
+write_digit : (a : Result ℕ WriteError) → write_number a ≤ 9
+write_digit (Ok n) = omega arith
+write_digit (Err Full) = omega arith
+write_digit (Err WriteStore) = omega arith
+write_digit (Err WriteBounds) = omega arith
 
 read_digit : (a : Result ℕ LentError) → host_number a ≤ 9
 read_digit (Ok n) = omega arith
@@ -57,15 +57,14 @@ ptt_digit (Ok on) = omega arith
 ptt_digit (Err LentStore) = omega arith
 ptt_digit (Err LentBounds) = omega arith
 
-kind_digit : (a : TxAnswer) → kind_number a ≤ 9
-kind_digit Nothing = omega arith
-kind_digit Preamble = omega arith
-kind_digit Lsf = omega arith
-kind_digit Stream = omega arith
-kind_digit Packet = omega arith
-kind_digit EndOfTransmission = omega arith
-kind_digit WrongStore = omega arith
-kind_digit OutOfBounds = omega arith
+kind_digit : (a : Result (Option ModulatorFrame) LentError) → kind_number a ≤ 9
+kind_digit (Ok None) = omega arith
+kind_digit (Ok (Some (Preamble delay))) = omega arith
+kind_digit (Ok (Some (Lsf lsf))) = omega arith
+kind_digit (Ok (Some (Stream frame))) = omega arith
+kind_digit (Ok (Some (Packet frame))) = omega arith
+kind_digit (Ok (Some EndOfTransmission)) = omega arith
+kind_digit (Err e) = omega arith
 
 call_digit : (w : World) (c : Call) → number_of w c ≤ 9
 unfolding number_of number

@@ -13,7 +13,6 @@ use Rattle.channel.specs.declared.Channel.{Channel}
 use Rattle.channel.specs.Access.{sound_channel}
 use Rattle.kiss_layout.specs.Scan.{not_fend}
 use Rattle.kiss_reader.specs.Reader.{Reader, STORE, flush, next, after_next}
-use Rattle.kiss_calls.specs.declared.WriteAnswer.TheVariants.{Done}
 use Rattle.kiss_calls.specs.declared.Written.{Written}
 use Rattle.kiss_calls.specs.declared.NextFrame.{NextFrame}
 use Rattle.kiss_calls.specs.Calls.{reader_of, buffer_of, sound_buffer, written, found}
@@ -46,7 +45,7 @@ use Rattle.event_step.specs.Host.{of_write}
 use Rattle.event_step.specs.Step.{Turn, applied, world_of, turn_of}
 use Rattle.event_step.proofs.Events.{on_host}
 use Rattle.event_block.specs.Spot.{Spot, spot}
-use Rattle.event_open.specs.declared.Opened.{Opened}
+use Rattle.event_answer.specs.declared.Taken.{Taken}
 use Rattle.event_open.specs.declared.Run.{Run}
 use Rattle.event_open.specs.Inside.{opened, is_open, keeps, kept_run, filled_to, open_run}
 use Rattle.event_open.proofs.Opens.{open_more, open_settled, open_quiet}
@@ -94,11 +93,11 @@ module _ (f : ℕ) (store : List ℕ) (l : length store ≡ STORE) where
       ∙ take_at (take f store ++ b ∷ []) _ (f + 1) (omega (arith, length-append (take f store) (b ∷ []), length-take f store))
 
   write_keeps : (b : ℕ) → f < STORE
-      → (record { answer = Done; count = 1; buffer = record { filled = f + 1; taken = false } }, set store f b) ≡ written (record { filled = f; taken = false }) (b ∷ []) store
+      → (record { answer = Ok 1; buffer = record { filled = f + 1; taken = false } }, set store f b) ≡ written (record { filled = f; taken = false }) (b ∷ []) store
   unfolding accepted
   write_keeps b h =
       let m : min 1 (STORE - f) ≡ 1 = omega arith in
-      ap {B = Written × List ℕ} (λ (s : List ℕ). (record { answer = Done; count = 1; buffer = record { filled = f + 1; taken = false } }, s)) (sym (kept_one b h))
+      ap {B = Written × List ℕ} (λ (s : List ℕ). (record { answer = Ok 1; buffer = record { filled = f + 1; taken = false } }, s)) (sym (kept_one b h))
       ∙ (rw m at (written_roomy (record { filled = f; taken = false }) (b ∷ []) store l (untaken (omega arith)) refl h))
 
 -- ---- a byte from the host where a frame is open
@@ -129,20 +128,20 @@ module _ (t : Tnc) (c : Channel) (reader packets streams : List ℕ) (b : ℕ)
   none-drained =
       then_ends box box (sym (next-stays (f + 1) (set reader f b) long still_open (omega arith))) (is_sound (f + 1) (set reader f b) long (omega arith)) (host_box host packets streams) refl
 
-  kiss_keeps : (record { answer = Done; count = 1; buffer = box.buffer; host = host }, set reader f b, packets, streams)
+  kiss_keeps : (record { answer = Ok 1; buffer = box.buffer; host = host }, set reader f b, packets, streams)
       ≡ kiss_written (record { filled = f; taken = false }) host (b ∷ []) reader packets streams
   unfolding sound_host
   kiss_keeps =
-      ap {B = KissWritten × List ℕ × List ℕ × List ℕ} (λ (d : Drained × List ℕ × List ℕ × List ℕ). (record { answer = Done; count = 1; buffer = d.0.buffer; host = d.0.host }, d.1, d.2, d.3)) none-drained
+      ap {B = KissWritten × List ℕ × List ℕ × List ℕ} (λ (d : Drained × List ℕ × List ℕ × List ℕ). (record { answer = Ok 1; buffer = d.0.buffer; host = d.0.host }, d.1, d.2, d.3)) none-drained
       ∙ went (record { filled = f; taken = false }) host (b ∷ []) reader packets streams its
       (packets_fit (length reader) (length packets) (length streams) fit) (streams_fit (length reader) (length packets) (length streams) fit)
-      (and_both (parts t sound).its_sending clear) Done _ _ (write_keeps f reader its b h) refl
+      (and_both (parts t sound).its_sending clear) (Ok 1) _ _ (write_keeps f reader its b h) refl
 
   -- the TNC with one byte more
   abbrev more : Tnc
   more = record { buffer = record { filled = f + 1; taken = false }; sending = t.sending; radio = t.radio; ptt = t.ptt }
 
-  tnc_keeps : t.buffer.taken ≡ false → (record { answer = Done; count = 1; tnc = more; channel = c }, set reader f b, packets, streams) ≡ tnc_written t c (b ∷ []) reader packets streams
+  tnc_keeps : t.buffer.taken ≡ false → (record { answer = Ok 1; tnc = more; channel = c }, set reader f b, packets, streams) ≡ tnc_written t c (b ∷ []) reader packets streams
   tnc_keeps e =
       ap {B = TncWritten × List ℕ × List ℕ × List ℕ} (λ (w : KissWritten × List ℕ × List ℕ × List ℕ). (put_back t w.0, w.1, w.2, w.3))
       (kiss_keeps ∙ (λ i. kiss_written (record { filled = f; taken = sym e i }) host (b ∷ []) reader packets streams))
@@ -259,13 +258,13 @@ run_walks (k ∷ b ∷ l) s i x r p q rx m y d n e room ready =
 
 -- the same of what `take_open` left
 pub open_walks : (x : EventBox) (s : List ℕ) (at : ℕ) (d : List ℕ) (n : ℕ) (r p q rx m y : List ℕ) → MOST ≤ length y
-    → {o : Opened} {e g : List ℕ} → (o, e, g) ≡ open_run x s at d n r (length p) (length q)
+    → {o : Taken} {e g : List ℕ} → (o, e, g) ≡ open_run x s at d n r (length p) (length q)
     → walk 0 (drop o.used s) o.used (spot (world_of o.after g p q rx m) y e o.wrote) ≡ walk 0 (drop at s) at (spot (world_of x r p q rx m) y d n)
 unfolding open_run
 open_walks x s at d n r p q rx m y room {o} {e} {g} f =
-    subst (λ (t : Opened × List ℕ × List ℕ). walk 0 (drop t.0.used s) t.0.used (spot (world_of t.0.after t.2 p q rx m) y t.1 t.0.wrote)
+    subst (λ (t : Taken × List ℕ × List ℕ). walk 0 (drop t.0.used s) t.0.used (spot (world_of t.0.after t.2 p q rx m) y t.1 t.0.wrote)
     ≡ walk 0 (drop at s) at (spot (world_of x r p q rx m) y d n)) (sym f)
-    (pick_all (λ (t : Opened × List ℕ × List ℕ). walk 0 (drop t.0.used s) t.0.used (spot (world_of t.0.after t.2 p q rx m) y t.1 t.0.wrote)
+    (pick_all (λ (t : Taken × List ℕ × List ℕ). walk 0 (drop t.0.used s) t.0.used (spot (world_of t.0.after t.2 p q rx m) y t.1 t.0.wrote)
     ≡ walk 0 (drop at s) at (spot (world_of x r p q rx m) y d n)) _ _ _
     (λ c. run_walks (drop at s) s at x r p q rx m y d n refl room (and_snd _ _ (and_snd _ _ c)))
     (λ c. refl))

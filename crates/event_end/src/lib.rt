@@ -12,11 +12,7 @@ use event_answer::EventBox;
 pub fn place_after(line: Result<usize, LineError>, at: usize) -> usize
     ensures { result ≡ place_after line at }
 {
-    match line {
-        Ok(next) => return next,
-        Err(LineError::NumberOver9) => return at,
-        Err(LineError::NoRoom) => return at,
-    }
+    line.unwrap_or(at)
 }
 
 // What is printed where no whole event stands at the start of the rest: nothing at the end of the input, else the kind with 9. Answers how many bytes that are.

@@ -57,11 +57,14 @@ fn obey_on(host: Host, number: u8, frame: &[u8], packets: &mut [u8], streams: &m
     if 2 < number {
         return host;
     }
-    match command(frame) {
-        Ok(KissCommand::DataFrame) => take_data(host, number, frame, packets, streams),
-        Ok(KissCommand::TxDelay) => set_tx_delay(host, frame),
-        Ok(KissCommand::FullDuplex) => set_full_duplex(host, frame),
-        Ok(KissCommand::P) | Err(_) => host,
+    let Ok(kind) = command(frame) else {
+        return host;
+    };
+    match kind {
+        KissCommand::DataFrame => take_data(host, number, frame, packets, streams),
+        KissCommand::TxDelay => set_tx_delay(host, frame),
+        KissCommand::P => host,
+        KissCommand::FullDuplex => set_full_duplex(host, frame),
     }
 }
 
@@ -113,6 +116,8 @@ fn read_setting(frame: &[u8]) -> Option<u8>
     ensures { result ≡ setting_in frame.now }
 {
     let mut room = [0u8; 1];
-    let len = decode_payload(frame, &mut room).ok()?;
-    (len > 0).then_some(room[0])
+    match decode_payload(frame, &mut room) {
+        Ok(len) if len != 0 => Some(room[0]),
+        _ => None,
+    }
 }

@@ -1,4 +1,4 @@
-// The frames of M17 as m17core's protocol.rs has them: the link setup frame (LSF), stream and packet frames. No code: what is asked of an LSF is in `lsf_frame` and `lsf_fields`, what is set in `lsf_setters`, the LICH collection in `lich`.
+// The frames of M17 as m17core's protocol.rs has them: the link setup frame (LSF), stream and packet frames. No code but what gives kinds and their numbers: what is asked of an LSF is in `lsf_frame` and `lsf_fields`, what is set in `lsf_setters`, the LICH collection in `lich`.
 #![tactic(auto)]
 
 mod lsf;

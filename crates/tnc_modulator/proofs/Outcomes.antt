@@ -13,6 +13,7 @@ use Rattle.std.specs.Prelude.{Result, Ok, Err, Option, Some, None}
 use Rattle.channel.specs.declared.Access.TheVariants.{Waits, Sends}
 use Rattle.channel.specs.declared.Access.{Access}
 use Rattle.channel.specs.declared.ChannelError.{ChannelError}
+use Rattle.channel.specs.declared.ChannelError.TheVariants.{OutOfRange, OutOfBounds as NoAccess}
 use Rattle.channel.specs.Access.{sound_channel, accessed, access_number}
 use Rattle.state.specs.declared.State.{State}
 use Rattle.state.specs.declared.State.TheVariants.{Idle, RxAcquiringStream, RxStream, RxPacket, TxStream, TxStreamSentEndOfStream, TxPacket, TxEnding, TxEndingAtTime}
@@ -82,7 +83,8 @@ module _ (q : Sending) (c : Channel) (ps ss : List ℕ) where
       access : wants_to_send q ≡ true → (a : Result Access ChannelError) → (accessed c).answer ≡ a → access_number a ≡ 0 → Passed s q c ps ss (allowed a s q (accessed c).channel)
       access w (Ok Sends) f n = is_keyed_up off w f
       access w (Ok Waits) f n = held_back off w f
-      access w (Err e) f n = absurd (omega (arith, n))
+      access w (Err OutOfRange) f n = absurd (omega (arith, n))
+      access w (Err NoAccess) f n = absurd (omega (arith, n))
 
       by : (t : Bool) → wants_to_send q ≡ t → Passed s q c ps ss (pick t (allowed (accessed c).answer s q (accessed c).channel) (unfilled (Ok None) s q c))
       by true w = access w (accessed c).answer refl (access_answered c e)

@@ -1,16 +1,15 @@
 -- `host_frame::obey` meets its contract. Assumes nothing.
 use Rattle.std.proofs.Common.{◌∙◌}
 use Rattle.std.specs.Prelude.{Err, Ok}
-use Rattle.kiss_layout.specs.declared.KissError.TheVariants.{MalformedKissFrame as NoPort}
 use Rattle.host_frame.proofs.Cases.{port_as}
 use Rattle.host_frame.proofs.obey.Goals as goal
 
-pub returns-in-MalformedKissFrame : goal.returns-in-MalformedKissFrame
-returns-in-MalformedKissFrame c =
+pub returns-in_default : goal.returns-in_default
+returns-in_default c =
     let a = c.args in
-    port_as a.host a.frame.now a.packets.now a.streams.now (Err NoPort) c.port.ensures c.in-MalformedKissFrame.is
+    port_as a.host a.frame.now a.packets.now a.streams.now (Err _) c.port.ensures c.in_default.is
 
-pub returns-in-Port : goal.returns-in-Port
-returns-in-Port c =
+pub returns : goal.returns
+returns c =
     let a = c.args in
-    c.obey_on.ensures ∙ port_as a.host a.frame.now a.packets.now a.streams.now (Ok _) c.port.ensures c.in-Port.is
+    c.obey_on.ensures ∙ port_as a.host a.frame.now a.packets.now a.streams.now (Ok _) c.port.ensures c.in-Ok.is
