@@ -154,22 +154,19 @@ fn two(s: &[u8], i: usize) -> usize
     requires { i < 8 }
     ensures { result < 65536 }
 {
-    (at(s, i) as usize) * 256 + (at(s, i + 1) as usize)
+    u16::from_be_bytes([at(s, i), at(s, i + 1)]) as usize
 }
 
 fn count_up(from: u8, n: usize, room: &mut [u8; 65536])
     requires { n < 65536 }
 {
-    for i in 0..n {
-        room[i] = ((from as usize + i % 256) % 256) as u8;
+    for (i, byte) in room[..n].iter_mut().enumerate() {
+        *byte = from.wrapping_add((i % 256) as u8);
     }
 }
 
 fn at(s: &[u8], i: usize) -> u8 {
-    if i < s.len() {
-        return s[i];
-    }
-    0
+    s.get(i).copied().unwrap_or(0)
 }
 
 fn ask(
