@@ -25,6 +25,14 @@ pub struct Applied {
     pub after: EventBox,
 }
 
+// How far the events of an input were taken: the place behind them, the place behind their lines, and what they left.
+#[derive(Clone, Copy)]
+pub struct Taken {
+    pub used: usize,
+    pub wrote: usize,
+    pub after: EventBox,
+}
+
 // The most bytes that an event prints: 09 asks for at most 255.
 pub const MOST_BYTES: usize = 255;
 

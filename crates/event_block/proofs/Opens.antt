@@ -45,7 +45,7 @@ use Rattle.event_step.specs.Host.{of_write}
 use Rattle.event_step.specs.Step.{Turn, applied, world_of, turn_of}
 use Rattle.event_step.proofs.Events.{on_host}
 use Rattle.event_block.specs.Spot.{Spot, spot}
-use Rattle.event_open.specs.declared.Opened.{Opened}
+use Rattle.event_answer.specs.declared.Taken.{Taken}
 use Rattle.event_open.specs.declared.Run.{Run}
 use Rattle.event_open.specs.Inside.{opened, is_open, keeps, kept_run, filled_to, open_run}
 use Rattle.event_open.proofs.Opens.{open_more, open_settled, open_quiet}
@@ -258,13 +258,13 @@ run_walks (k ∷ b ∷ l) s i x r p q rx m y d n e room ready =
 
 -- the same of what `take_open` left
 pub open_walks : (x : EventBox) (s : List ℕ) (at : ℕ) (d : List ℕ) (n : ℕ) (r p q rx m y : List ℕ) → MOST ≤ length y
-    → {o : Opened} {e g : List ℕ} → (o, e, g) ≡ open_run x s at d n r (length p) (length q)
+    → {o : Taken} {e g : List ℕ} → (o, e, g) ≡ open_run x s at d n r (length p) (length q)
     → walk 0 (drop o.used s) o.used (spot (world_of o.after g p q rx m) y e o.wrote) ≡ walk 0 (drop at s) at (spot (world_of x r p q rx m) y d n)
 unfolding open_run
 open_walks x s at d n r p q rx m y room {o} {e} {g} f =
-    subst (λ (t : Opened × List ℕ × List ℕ). walk 0 (drop t.0.used s) t.0.used (spot (world_of t.0.after t.2 p q rx m) y t.1 t.0.wrote)
+    subst (λ (t : Taken × List ℕ × List ℕ). walk 0 (drop t.0.used s) t.0.used (spot (world_of t.0.after t.2 p q rx m) y t.1 t.0.wrote)
     ≡ walk 0 (drop at s) at (spot (world_of x r p q rx m) y d n)) (sym f)
-    (pick_all (λ (t : Opened × List ℕ × List ℕ). walk 0 (drop t.0.used s) t.0.used (spot (world_of t.0.after t.2 p q rx m) y t.1 t.0.wrote)
+    (pick_all (λ (t : Taken × List ℕ × List ℕ). walk 0 (drop t.0.used s) t.0.used (spot (world_of t.0.after t.2 p q rx m) y t.1 t.0.wrote)
     ≡ walk 0 (drop at s) at (spot (world_of x r p q rx m) y d n)) _ _ _
     (λ c. run_walks (drop at s) s at x r p q rx m y d n refl room (and_snd _ _ (and_snd _ _ c)))
     (λ c. refl))

@@ -7,20 +7,12 @@ ghost use Rattle.event_block.specs.Spot.{spot, stepped};
 ghost use Rattle.event_block.specs.Block.{block, block_run};
 ghost use Rattle.event_answer.specs.Answer.{MOST};
 
-use event_answer::{EventBox, LINE_LEN, MOST_BYTES};
+use event_answer::{EventBox, LINE_LEN, MOST_BYTES, Taken};
 use event_input::Next;
 
 #[derive(Clone, Copy)]
 pub struct Turn {
     // The place behind the line.
-    pub wrote: usize,
-    pub after: EventBox,
-}
-
-#[derive(Clone, Copy)]
-pub struct Block {
-    // How many bytes of the block were used, and how many written.
-    pub used: usize,
     pub wrote: usize,
     pub after: EventBox,
 }
@@ -36,12 +28,12 @@ pub fn run_block(
     rx: &mut [u8],
     message: &mut [u8],
     bytes: &mut [u8],
-) -> Block
+) -> Taken
     ensures wrote_after { block result.used (spot (world_of result.after reader.new packets.new streams.new rx.new message.new) bytes.new dst.new result.wrote) ≡ block_run src.now (spot (world_of before reader.old packets.old streams.old rx.old message.old) bytes.old dst.old 0) }
     ensures used_in_bounds { (result.used ≤ length src.now) × (result.wrote ≤ length dst.old) }
 {
     if bytes.len() < MOST_BYTES {
-        return Block {
+        return Taken {
             used: 0,
             wrote: 0,
             after: before,
@@ -83,9 +75,9 @@ pub fn run_block(
         wrote = open.wrote;
         at = open.used;
     }
-    Block {
+    Taken {
         used: at,
-        wrote: wrote,
+        wrote,
         after: station,
     }
 }
@@ -109,22 +101,11 @@ fn step(
     let done = event_step::apply(
         before, kind, body, reader, packets, streams, rx, message, bytes,
     );
-    let count = at_most(done.count);
-    let after = done.after;
+    // No event has more bytes (event_step, specs/Promises.antt); the bound is kept here, so that the room of a line can be known before the event is applied.
+    let count = done.count.min(MOST_BYTES);
     let line = event_line::put_line(kind, done.number, done.ptt, &bytes[..count], dst, at);
     Turn {
         wrote: event_end::place_after(line, at),
-        after: after,
-    }
-}
-
-// No event has more bytes (event_step, specs/Promises.antt); the bound is tested, so that the room of a line can be known before the event is applied.
-fn at_most(count: usize) -> usize
-    ensures { result ≡ min count MOST }
-{
-    if count < MOST_BYTES {
-        count
-    } else {
-        MOST_BYTES
+        after: done.after,
     }
 }

@@ -12,7 +12,7 @@ use Rattle.event_input.specs.Events.{HOST}
 use Rattle.event_line.specs.Line.{line_of}
 use Rattle.event_answer.specs.declared.EventBox.{EventBox}
 use Rattle.event_answer.specs.Answer.{LINE}
-use Rattle.event_open.specs.declared.Opened.{Opened}
+use Rattle.event_answer.specs.declared.Taken.{Taken}
 use Rattle.event_open.specs.declared.Run.{Run}
 
 -- a frame is open: a FEND, and none behind it
@@ -54,15 +54,15 @@ filled_to x f =
     }
 
 -- nothing is taken
-abbrev pub stays : EventBox → ℕ → ℕ → Opened
+abbrev pub stays : EventBox → ℕ → ℕ → Taken
 stays x at n = record { used = at; wrote = n; after = x }
 
 -- what a run leaves of the box, and of both stores
-abbrev pub ran_to : EventBox → Run × List ℕ × List ℕ → Opened × List ℕ × List ℕ
+abbrev pub ran_to : EventBox → Run × List ℕ × List ℕ → Taken × List ℕ × List ℕ
 ran_to x k = (record { used = k.0.used; wrote = k.0.wrote; after = filled_to x k.0.filled }, k.1, k.2)
 
 -- the answer of `take_open`, the lines' room and the reader's store after it
-unfoldable pub open_run : EventBox → List ℕ → ℕ → List ℕ → ℕ → List ℕ → ℕ → ℕ → Opened × List ℕ × List ℕ
+unfoldable pub open_run : EventBox → List ℕ → ℕ → List ℕ → ℕ → List ℕ → ℕ → ℕ → Taken × List ℕ × List ℕ
 open_run x s at d n r p q =
     pick (and (begins s at) (and (leb n (length d)) (is_open x.tnc x.channel r p q)))
     (ran_to x (kept_run (drop at s) at d n r x.tnc.buffer.filled x.tnc.ptt))

@@ -3,21 +3,13 @@
 
 ghost use Rattle.std.specs.Prelude.{◌≡◌, ◌≤◌, leb, length, drop};
 ghost use Rattle.choice.specs.Pick.{and};
-ghost use Rattle.event_open.specs.Inside.{is_open, begins, kept_run, open_run};
+ghost use Rattle.event_open.specs.Inside.{opened, is_open, begins, kept_run, open_run};
 
-use event_answer::{EventBox, LINE_LEN};
+use event_answer::{EventBox, LINE_LEN, Taken};
 use kiss_layout::FEND;
 
 // The kind of an event that brings a byte from the host.
 const HOST: u8 = 1;
-
-#[derive(Clone, Copy)]
-pub struct Opened {
-    // The place in the input behind the events taken, and the place behind their lines.
-    pub used: usize,
-    pub wrote: usize,
-    pub after: EventBox,
-}
 
 #[derive(Clone, Copy)]
 pub struct Run {
@@ -37,13 +29,13 @@ pub fn take_open(
     reader: &mut [u8],
     packets: usize,
     streams: usize,
-) -> Opened
+) -> Taken
     ensures { (result, dst.new, reader.new) ≡ open_run before src.now at dst.old wrote reader.old packets streams }
 {
     if !may_run(before, src, at, dst.len(), wrote, reader, packets, streams) {
-        return Opened {
+        return Taken {
             used: at,
-            wrote: wrote,
+            wrote,
             after: before,
         };
     }
@@ -57,14 +49,14 @@ pub fn take_open(
         before.tnc.ptt,
     );
     before.tnc.buffer.filled = run.filled;
-    Opened {
+    Taken {
         used: run.used,
         wrote: run.wrote,
         after: before,
     }
 }
 
-// The next event is of kind 01, all is as a write asks it, and a frame is open: a FEND, and none behind it.
+// The next event is of kind 01, its line has a place to begin, and a frame is open.
 fn may_run(
     before: EventBox,
     src: &[u8],
@@ -77,37 +69,35 @@ fn may_run(
 ) -> bool
     ensures { result ≡ and (begins src.now at) (and (leb wrote room) (is_open before.tnc before.channel reader.now packets streams)) }
 {
-    if src.len() <= at {
+    if src.len() <= at || src[at] != HOST || room < wrote {
         return false;
     }
-    if src[at] != HOST {
+    is_open(before, reader, packets, streams)
+}
+
+// All is as a write asks it, and a frame is open.
+fn is_open(before: EventBox, reader: &[u8], packets: usize, streams: usize) -> bool
+    ensures { result ≡ is_open before.tnc before.channel reader.now packets streams }
+{
+    let buffer = before.tnc.buffer;
+    if !link_ready::link_fits(reader.len(), packets, streams)
+        || !before.tnc.is_sound()
+        || !before.channel.is_sound()
+        || buffer.taken
+    {
         return false;
     }
-    if room < wrote {
+    opened(&reader[..buffer.filled])
+}
+
+// A FEND, and none behind it.
+fn opened(held: &[u8]) -> bool
+    ensures { result ≡ opened held.now }
+{
+    let Some((first, rest)) = held.split_first() else {
         return false;
-    }
-    if !link_ready::link_fits(reader.len(), packets, streams) {
-        return false;
-    }
-    let tnc = before.tnc;
-    if !tnc.is_sound() {
-        return false;
-    }
-    let channel = before.channel;
-    if !channel.is_sound() {
-        return false;
-    }
-    if before.tnc.buffer.taken {
-        return false;
-    }
-    let filled = before.tnc.buffer.filled;
-    if filled == 0 {
-        return false;
-    }
-    if reader[0] != FEND {
-        return false;
-    }
-    kiss_fend::to_fend(&reader[1..filled]) == filled - 1
+    };
+    *first == FEND && kiss_fend::to_fend(rest) == rest.len()
 }
 
 fn keep_bytes(
@@ -125,20 +115,15 @@ fn keep_bytes(
     let mut i = at;
     let mut j = wrote;
     let mut n = filled;
-    while 2 <= src.len() - i {
-        let b = src[i + 1];
+    for event in src[at..].as_chunks::<2>().0 {
+        let [kind, b] = *event;
         // with room for a longest line, and place for the byte
-        if !((src[i] == HOST)
-            & (b != FEND)
-            & (LINE_LEN <= dst.len() - j)
-            & (0 < reader.len() - n))
-        {
+        if !((kind == HOST) & (b != FEND) & (LINE_LEN <= dst.len() - j) & (0 < reader.len() - n)) {
             break;
         }
         reader[n] = b;
-        event_line::put_line(HOST, 0, on, b"", dst, j);
+        j = event_line::put_line(HOST, 0, on, b"", dst, j).unwrap_or(j);
         i += 2;
-        j += 7;
         n += 1;
     }
     Run {

@@ -69,12 +69,15 @@ fn turn<R: Read, W: Write>(
     requires { (session.from ≤ session.held) × (session.held ≤ 65536) }
     ensures { (result.from ≤ result.held) × (result.held ≤ 65536) }
 {
-    let from = session.from;
-    let held = session.held;
-    let before = session.station;
+    let Session {
+        station,
+        from,
+        held,
+        ..
+    } = session;
     let all: &[u8] = input;
     let run = event_block::run_block(
-        before,
+        station,
         &all[from..held],
         output,
         reader,
@@ -84,17 +87,14 @@ fn turn<R: Read, W: Write>(
         message,
         bytes,
     );
-    let station = run.after;
-    let used = run.used;
-    let wrote = run.wrote;
     let lines: &[u8] = output;
-    if target.write_all(&lines[..wrote]).is_err() {
+    if target.write_all(&lines[..run.wrote]).is_err() {
         return Session {
-            station: station,
+            station: run.after,
             from: 0,
             held: 0,
             going: false,
         };
     }
-    event_session::follow(station, source, target, input, used, from + used, held)
+    event_session::follow(run.after, source, target, input, run.used, from + run.used, held)
 }

@@ -33,7 +33,7 @@ pub fn follow<R: Read, W: Write>(
     ensures by_index { (k : ℕ) → used ≡ 0 → next_at (take held input.old) at ≡ Unknown k → result.going ≡ false }
 {
     let stopped = Session {
-        station: station,
+        station,
         from: 0,
         held: 0,
         going: false,
@@ -46,15 +46,15 @@ pub fn follow<R: Read, W: Write>(
     }
     if used > 0 {
         return Session {
-            station: station,
+            station,
             from: at,
-            held: held,
+            held,
             going: true,
         };
     }
     let left: &[u8] = input;
     let next = event_input::next_event(&left[..held], at);
-    store_shift::shift(input, at, held);
+    store_shift::shift(input, at, held).unwrap();
     let kept = held - at;
     let more = fill(source, input, kept, next);
     if more == kept {
@@ -63,7 +63,7 @@ pub fn follow<R: Read, W: Write>(
         return stopped;
     }
     Session {
-        station: station,
+        station,
         from: 0,
         held: more,
         going: true,
@@ -81,10 +81,7 @@ fn fill<R: Read>(source: &mut R, input: &mut [u8], held: usize, next: Next) -> u
         return held;
     }
     let room = &mut input[held..];
-    match source.read(room) {
-        Ok(count) => held + count,
-        Err(_) => held,
-    }
+    held + source.read(room).unwrap_or(0)
 }
 
 // What is printed at the end of the input, or at a kind that is not known.

@@ -1,5 +1,8 @@
 -- What the code for each kind of event answers, put together of what its callees said. Assumes nothing.
 use Prim.Native.Nat.{ℕ}
+use Rattle.std.specs.Prelude.{Result, Ok, Err}
+use Rattle.std.specs.Result.{result_unwrap_or}
+use Rattle.room.specs.declared.LentError.{LentError}
 use mathlib.Core.Path.{◌≡◌, ap, ◌∙◌}
 use Rattle.channel.specs.declared.ChannelSet.{ChannelSet}
 use Rattle.channel.specs.Access.{set_number}
@@ -27,9 +30,14 @@ timed_is s e f g = e ∙ (λ j. answered (f j) 0 s.tnc s.channel) ∙ ap of_time
 pub write_is : (w : TncWritten) (a b c : List ℕ) {n : ℕ} {r : Applied} {q : TncWritten × List ℕ × List ℕ × List ℕ} → r ≡ answered n 0 w.tnc w.channel → n ≡ write_number w.answer → (w, a, b, c) ≡ q → (r, a, b, c) ≡ of_write q
 write_is w a b c e f g = (λ j. (e j, a, b, c)) ∙ (λ j. (answered (f j) 0 w.tnc w.channel, a, b, c)) ∙ ap of_write g
 
-read_is : (c : Channel) (g : TncRead) (room a : List ℕ) {n : ℕ} {r : Applied} {q : TncRead × List ℕ} → r ≡ answered n (read_count g.answer) g.tnc c → n ≡ host_number g.answer → (g, a) ≡ q → (r, over a room) ≡ of_read c q room
-read_is c g room a e f h = (λ j. (e j, over a room)) ∙ (λ j. (answered (f j) (read_count g.answer) g.tnc c, over a room)) ∙ ap (λ (q : TncRead × List ℕ). of_read c q room) h
+-- of a refusal no byte counts
+pub counted : (a : Result ℕ LentError) {k : ℕ} → k ≡ result_unwrap_or a 0 → k ≡ read_count a
+counted (Ok n) e = e
+counted (Err x) e = e
 
--- the room was lent up to n
-pub read_part : (c : Channel) (g : TncRead) (room a : List ℕ) (k : ℕ) {n : ℕ} {r : Applied} {q : TncRead × List ℕ} → k ≡ length a → r ≡ answered n (read_count g.answer) g.tnc c → n ≡ host_number g.answer → (g, a) ≡ q → (r, a ++ drop k room) ≡ of_read c q room
-read_part c g room a k {r = r} l e f h = (λ j. (r, a ++ drop (l j) room)) ∙ read_is c g room a e f h
+read_is : (c : Channel) (g : TncRead) (room a : List ℕ) {n k : ℕ} {r : Applied} {q : TncRead × List ℕ} → k ≡ read_count g.answer → r ≡ answered n k g.tnc c → n ≡ host_number g.answer → (g, a) ≡ q → (r, over a room) ≡ of_read c q room
+read_is c g room a d e f h = (λ j. (e j, over a room)) ∙ (λ j. (answered (f j) (d j) g.tnc c, over a room)) ∙ ap (λ (q : TncRead × List ℕ). of_read c q room) h
+
+-- the room was lent up to m
+pub read_part : (c : Channel) (g : TncRead) (room a : List ℕ) (m : ℕ) {n k : ℕ} {r : Applied} {q : TncRead × List ℕ} → m ≡ length a → k ≡ read_count g.answer → r ≡ answered n k g.tnc c → n ≡ host_number g.answer → (g, a) ≡ q → (r, a ++ drop m room) ≡ of_read c q room
+read_part c g room a m {r = r} l d e f h = (λ j. (r, a ++ drop (l j) room)) ∙ read_is c g room a d e f h

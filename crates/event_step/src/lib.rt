@@ -4,25 +4,22 @@
 ghost use Rattle.std.specs.Prelude.{◌≡◌, not, eqb, leb, length, get_or, take};
 ghost use Rattle.event_step.specs.Step.{world_of, turn_of, applied};
 ghost use Rattle.choice.specs.Pick.{pick};
-ghost use Rattle.channel.specs.Access.{carrier_set, set_number};
+ghost use Rattle.channel.specs.Access.{carrier_set};
 ghost use Rattle.tnc_clock.specs.Clock.{now_set, end_time_set};
 ghost use Rattle.event_step.specs.Numbers.{four_bytes, eight_bytes, number_of};
 ghost use Rattle.event_answer.specs.Answer.{refused, MOST};
 ghost use Rattle.event_step.specs.Channel.{of_set, of_timed};
-ghost use Rattle.kiss_calls.specs.Calls.{write_number};
-ghost use Rattle.outgoing.specs.Message.{host_number};
 ghost use Rattle.tnc.specs.Calls.{tnc_written};
 ghost use Rattle.tnc_read.specs.Calls.{tnc_read};
 ghost use Rattle.event_step.specs.Host.{of_write, of_read};
 
-use room::LentError;
-use kiss_calls::WriteError;
-use channel::ChannelError;
-use event_answer::{Applied, EventBox, MOST_BYTES, answer, refuse};
+use event_answer::{Applied, EventBox, MOST_BYTES, answer, number_of, refuse};
 
 // What has a place in seven bytes, so that another byte leaves no more than eight.
 const SEVEN_BYTES: u64 = 72057594037927936;
 
+// The kind is a byte, and no enum, since a host in C hands in any byte; one that is no kind is answered 9. Reader, stores, rx and message are lent one by one: in a struct of slices
+// they could not be lent on to the calls below.
 // A kind that is not known, a body that is not its kind's and a room for fewer than 255 bytes are answered 9, and nothing is changed.
 pub fn apply(
     before: EventBox,
@@ -66,24 +63,8 @@ fn host_byte(
     if body.len() != 1 {
         return refuse(before);
     }
-    let tnc = before.tnc;
-    let channel = before.channel;
-    let written = tnc::write_kiss(tnc, channel, body, reader, packets, streams);
-    let given = written.answer;
-    let tnc_after = written.tnc;
-    let channel_after = written.channel;
-    answer(write_number(given), 0, tnc_after, channel_after)
-}
-
-fn write_number(answer: Result<usize, WriteError>) -> u8
-    ensures { result ≡ write_number answer }
-{
-    match answer {
-        WriteAnswer::Done => 0,
-        Err(WriteError::Full) => 5,
-        Err(WriteError::WrongStore) => 7,
-        Err(WriteError::OutOfBounds) => 8,
-    }
+    let written = tnc::write_kiss(before.tnc, before.channel, body, reader, packets, streams);
+    answer(number_of(written.answer), 0, written.tnc, written.channel)
 }
 
 fn carrier(before: EventBox, body: &[u8]) -> Applied
@@ -93,8 +74,7 @@ fn carrier(before: EventBox, body: &[u8]) -> Applied
         return refuse(before);
     }
     let set = before.channel.set_data_carrier_detect(body[0] != 0);
-    let given = set.answer;
-    answer(set_number(given), 0, before.tnc, set.channel)
+    answer(number_of(set.answer), 0, before.tnc, set.channel)
 }
 
 fn clock(before: EventBox, body: &[u8]) -> Applied
@@ -104,8 +84,7 @@ fn clock(before: EventBox, body: &[u8]) -> Applied
         return refuse(before);
     }
     let set = tnc_clock::set_now(before.tnc, before.channel, number(body));
-    let given = set.answer;
-    answer(set_number(given), 0, set.tnc, set.channel)
+    answer(number_of(set.answer), 0, set.tnc, set.channel)
 }
 
 fn end_time(before: EventBox, body: &[u8]) -> Applied
@@ -115,18 +94,7 @@ fn end_time(before: EventBox, body: &[u8]) -> Applied
         return refuse(before);
     }
     let set = tnc_clock::set_tx_end_time(before.tnc, before.channel, number(body));
-    let given = set.answer;
-    answer(set_number(given), 0, set.tnc, set.channel)
-}
-
-fn set_number(answer: Result<(), ChannelError>) -> u8
-    ensures { result ≡ set_number answer }
-{
-    match answer {
-        Ok(()) => return 0,
-        Err(ChannelError::OutOfRange) => return 6,
-        Err(ChannelError::OutOfBounds) => return 8,
-    }
+    answer(number_of(set.answer), 0, set.tnc, set.channel)
 }
 
 // Of more than eight bytes the last eight count.
@@ -152,21 +120,8 @@ fn read_host(before: EventBox, body: &[u8], message: &[u8], bytes: &mut [u8]) ->
     if bytes.len() < MOST_BYTES {
         return refuse(before);
     }
-    let tnc = before.tnc;
-    let channel = before.channel;
-    let most = body[0] as usize;
-    let read = tnc_read::read_kiss(tnc, message, &mut bytes[..most]);
-    let given = read.answer;
-    let tnc_after = read.tnc;
-    answer(host_number(given), read.count, tnc_after, channel)
-}
-
-fn host_number(answer: Result<usize, LentError>) -> u8
-    ensures { result ≡ host_number answer }
-{
-    match answer {
-        HostAnswer::Done => 0,
-        Err(LentError::WrongStore) => 7,
-        Err(LentError::OutOfBounds) => 8,
-    }
+    let most = usize::from(body[0]);
+    let read = tnc_read::read_kiss(before.tnc, message, &mut bytes[..most]);
+    let count = read.answer.unwrap_or(0);
+    answer(number_of(read.answer), count, read.tnc, before.channel)
 }

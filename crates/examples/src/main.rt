@@ -3,10 +3,9 @@
 
 ghost use Rattle.std.specs.Prelude.{◌≡◌, ℕ, ◌<◌, get_or};
 
-use room::LentError;
-use channel::{Access, Channel, ChannelError};
-use kiss_calls::KissBuffer;
-use lich::{LichCollection, LichError};
+use channel::{Access, Channel};
+use kiss_calls::{KissBuffer, NextFrame};
+use lich::LichCollection;
 use protocol::LsfFrame;
 use std::io;
 use std::io::Write;
@@ -66,11 +65,9 @@ fn lsf_line<W: Write>(target: &mut W, name: &str, lsf: LsfFrame) -> io::Result<(
 // The number with which a new collection answers a segment of that index.
 fn lich_line<W: Write>(target: &mut W, name: &str, index: u8) -> io::Result<()> {
     let set = LichCollection::new().set_segment(index, [0u8; 5]);
-    let answer = set.answer;
-    let number = match answer {
+    let number = match set.answer {
         Ok(()) => 0,
-        Err(LichError::IndexOver5) => 6,
-        Err(LichError::OutOfBounds) => 8,
+        Err(error) => u8::from(error),
     };
     writeln!(target, "{name}: {number}")
 }
@@ -83,58 +80,34 @@ fn stretch_line<W: Write>(target: &mut W, name: &str, len: usize) -> io::Result<
         reader = fed(reader, 0x07, &mut store).buffer;
     }
     let last = fed(reader, 0xC0, &mut store);
-    writeln!(target, "{name}: {}", last.frames)
+    let frames = match last.answer {
+        Ok(Some(_)) => 1,
+        Ok(None) => 0,
+        Err(error) => u8::from(error),
+    };
+    writeln!(target, "{name}: {frames}")
 }
 
-#[derive(Clone, Copy)]
-struct Answered {
-    frames: u64,
-    buffer: KissBuffer,
-}
-
-fn fed(reader: KissBuffer, byte: u8, store: &mut [u8; 1713]) -> Answered {
-    let offered = [byte];
-    let written = kiss_buffer::write(reader, &offered, store);
-    let before = written.buffer;
-    let next = kiss_next::next_frame(before, store);
-    let buffer = next.buffer;
-    let answer = next.answer;
-    match answer {
-        Ok(Some(_)) => Answered {
-            frames: 1,
-            buffer: buffer,
-        },
-        Ok(None) => Answered {
-            frames: 0,
-            buffer: buffer,
-        },
-        Err(LentError::WrongStore) => Answered {
-            frames: 7,
-            buffer: buffer,
-        },
-        Err(LentError::OutOfBounds) => Answered {
-            frames: 8,
-            buffer: buffer,
-        },
-    }
+fn fed(reader: KissBuffer, byte: u8, store: &mut [u8; 1713]) -> NextFrame {
+    let written = kiss_buffer::write(reader, &[byte], store);
+    kiss_next::next_frame(written.buffer, store)
 }
 
 fn waiting_until(clock: u64, carrier: bool, waits: bool, check: u64) -> Channel {
     Channel {
-        clock: clock,
-        carrier: carrier,
-        waits: waits,
-        check: check,
+        clock,
+        carrier,
+        waits,
+        check,
         duplex: false,
     }
 }
 
 fn channel_line<W: Write>(target: &mut W, name: &str, before: Channel) -> io::Result<()> {
     let after = channel_access::access(before);
-    let answer = after.answer;
-    match answer {
+    match after.answer {
         Ok(Access::Sends) => writeln!(target, "{name}: sends"),
         Ok(Access::Waits) => writeln!(target, "{name}: checks at {}", after.channel.check),
-        Err(ChannelError::OutOfBounds) => writeln!(target, "{name}: 8"),
+        Err(error) => writeln!(target, "{name}: {}", u8::from(error)),
     }
 }

@@ -1,5 +1,5 @@
 // The builders of KISS frames that carry packets, as m17core's kiss.rs has them. Each writes a frame at the start of a room that it is lent.
-#![tactic(auto)]
+#![tactic(auto, unfolding(kiss_layout::specs::Build::built, kiss_layout::specs::Build::refusal, choice::specs::Pick::pick))]
 
 ghost use Rattle.std.specs.Prelude.{◌≡◌};
 ghost use Rattle.kiss_layout.specs.Build.{built, basic_packet, full_packet};

@@ -2,9 +2,9 @@
 // `kiss_buffer`, `kiss_next` and `kiss_sound`.
 #![tactic(auto)]
 
-ghost use Rattle.std.specs.Prelude.{◌≡◌};
+ghost use Rattle.std.specs.Prelude.{◌≡◌, Err};
 ghost use Rattle.kiss_reader.specs.Reader.{new_reader};
-ghost use Rattle.kiss_calls.specs.Calls.{buffer_of};
+ghost use Rattle.kiss_calls.specs.Calls.{buffer_of, write_number};
 
 use room::LentError;
 
@@ -28,6 +28,18 @@ pub enum WriteError {
     OutOfBounds,
 }
 
+impl From<WriteError> for u8 {
+    ghost from_gives = { λ error n. n ≡ write_number (Err error) };
+
+    fn from(error: WriteError) -> u8 {
+        match error {
+            WriteError::Full => 5,
+            WriteError::WrongStore => 7,
+            WriteError::OutOfBounds => 8,
+        }
+    }
+}
+
 // How many of the offered bytes were taken.
 #[derive(Clone, Copy)]
 pub struct Written {
@@ -36,7 +48,6 @@ pub struct Written {
 }
 
 // The length of the frame that stands whole at the store's start, where one does.
-
 #[derive(Clone, Copy)]
 pub struct NextFrame {
     pub answer: Result<Option<usize>, LentError>,

@@ -4,7 +4,6 @@
 ghost use Rattle.std.specs.Prelude.{◌≡◌};
 ghost use Rattle.kiss_layout.specs.Scan.{is_fend, not_fend, run_of};
 
-use block_load::load16;
 use block_none::none_of;
 use kiss_layout::FEND;
 
@@ -12,34 +11,14 @@ use kiss_layout::FEND;
 pub fn leading_fends(s: &[u8]) -> usize
     ensures { result ≡ run_of is_fend s.now }
 {
-    let mut i = 0;
-    while i < s.len() {
-        if s[i] != FEND {
-            return i;
-        }
-        i += 1;
-    }
-    i
+    s.iter().take_while(|b| **b == FEND).count()
 }
 
 // How many bytes stand before the first FEND, all of them where there is none. Blocks without one are passed sixteen bytes at a time.
 pub fn to_fend(s: &[u8]) -> usize
     ensures { result ≡ run_of not_fend s.now }
 {
-    let mut i = 0;
-    while 16 <= s.len() - i {
-        let block = load16(s, i);
-        if none_of(block, FEND) {
-            i += 16;
-        } else {
-            break;
-        }
-    }
-    while i < s.len() {
-        if s[i] == FEND {
-            return i;
-        }
-        i += 1;
-    }
-    i
+    let (blocks, _) = s.as_chunks::<16>();
+    let passed = 16 * blocks.iter().take_while(|t| none_of(**t, FEND)).count();
+    passed + s[passed..].iter().take_while(|b| **b != FEND).count()
 }

@@ -6,7 +6,6 @@ ghost use Rattle.std.proofs.lemmas.List.Edits.{sets};
 ghost use Rattle.kiss_layout.specs.Escape.{esc};
 ghost use Rattle.kiss_layout.specs.Frame.{frame, put_frame};
 
-use room::NoRoom;
 use kiss_escape::escape;
 use kiss_layout::{BuildError, FEND};
 use kiss_length::escaped_len;
@@ -49,8 +48,5 @@ fn put_content(src: &[u8], room: &mut [u8], at: usize) -> usize
     requires { at + length (esc src.now) ≤ length room.old }
     ensures { (result ≡ length (esc src.now)) × (room.new ≡ sets room.old at (esc src.now)) }
 {
-    match escape(src, &mut room[at..]) {
-        Ok(n) => n,
-        Err(NoRoom) => 0,
-    }
+    escape(src, &mut room[at..]).unwrap()
 }

@@ -10,16 +10,7 @@ use kiss_layout::{FEND, FESC};
 pub fn escaped_len(src: &[u8]) -> usize
     ensures { result ≡ length (esc src.now) }
 {
-    let mut n = 0;
-    let mut i = 0;
-    while i < src.len() {
-        let b = src[i];
-        i += 1;
-        if (b == FEND) | (b == FESC) {
-            n += 2;
-        } else {
-            n += 1;
-        }
-    }
-    n
+    src.iter()
+        .map(|b| 1 + usize::from((*b == FEND) | (*b == FESC)))
+        .sum()
 }

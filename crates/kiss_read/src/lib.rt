@@ -12,15 +12,10 @@ use kiss_unescape::unescape;
 pub fn decode_payload(frame: &[u8], out: &mut [u8]) -> Result<usize, KissError>
     ensures { (result, out.new) ≡ decoded frame.now out.old }
 {
-    let at = leading_fends(frame);
-    if frame.len() <= at {
+    let behind = frame.get(leading_fends(frame) + 1..).ok_or(KissError::MalformedKissFrame)?;
+    let len = to_fend(behind);
+    if behind.len() <= len {
         return Err(KissError::MalformedKissFrame);
     }
-    let start = at + 1;
-    let len = to_fend(&frame[start..]);
-    if frame.len() - start <= len {
-        return Err(KissError::MalformedKissFrame);
-    }
-    let end = start + len;
-    Ok(unescape(&frame[start..end], out))
+    Ok(unescape(&behind[..len], out))
 }

@@ -1,10 +1,10 @@
 -- A state as two numbers, its kind and its value, and which numbers are a state's, from document 01's "Bounds for 8". Assumes nothing.
-use Rattle.std.specs.Prelude.{ℕ, ◌%◌, Bool, true, leb, eqb}
+use Rattle.std.specs.Prelude.{ℕ, ◌%◌, Bool, true, leb, eqb, Result, Ok, Err}
 use Rattle.choice.specs.Pick.{pick, and}
 use Rattle.state.specs.declared.State.{State}
 use Rattle.state.specs.declared.State.TheVariants.{Idle, RxAcquiringStream, RxStream, RxPacket, TxStream, TxStreamSentEndOfStream, TxPacket, TxEnding, TxEndingAtTime}
 use Rattle.tnc_link.specs.declared.StateNumbers.{StateNumbers}
-use Rattle.tnc_link.specs.declared.StateRead.{StateRead}
+use Rattle.tnc_link.specs.declared.NoState.{NoState}
 
 abbrev pub state_kind : State → ℕ
 state_kind Idle = 0
@@ -50,5 +50,10 @@ state_of kind value =
     (pick (eqb kind 7) TxEnding
     (pick (eqb kind 8) (TxEndingAtTime value) Idle)))))))
 
-abbrev pub state_read : ℕ → ℕ → StateRead
-state_read kind value = record { valid = valid_state kind value; state = state_of kind value }
+-- the one value of its type
+abbrev pub no_state : NoState
+no_state = record {}
+
+-- the state that two numbers stand for, where they are a state's
+unfoldable pub state_read : ℕ → ℕ → Result State NoState
+state_read kind value = pick (valid_state kind value) (Ok (state_of kind value)) (Err no_state)

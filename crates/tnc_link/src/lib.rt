@@ -21,12 +21,9 @@ pub struct StateNumbers {
     pub value: u64,
 }
 
-// The state that two numbers stand for, and whether they are a state's: the kind one of nine and the value one of that kind's.
-#[derive(Clone, Copy)]
-pub struct StateRead {
-    pub valid: bool,
-    pub state: State,
-}
+// Numbers that are no state's: the kind is none of nine, or the value none of that kind's.
+#[derive(Clone, Copy, Debug, PartialEq, Eq)]
+pub struct NoState;
 
 // The TNC and its channel. A state is its kind, 0 to 8 in the order of `state::State`, and its number, 0 where it has none.
 #[repr(C)]
@@ -71,25 +68,20 @@ pub fn iflazrud_tnc_event(
 ) -> EventAnswer
     ensures { saved_turn result reader.new packets.new streams.new rx.new message.new bytes.new ≡ event_on saved kind body.now reader.old packets.old streams.old rx.old message.old bytes.old }
 {
-    let read = state_of(saved.state, saved.value);
-    if !read.valid {
+    let numbers = StateNumbers {
+        kind: saved.state,
+        value: saved.value,
+    };
+    let Ok(state) = State::try_from(numbers) else {
         return EventAnswer {
             number: 8,
             count: 0,
             ptt: false,
-            saved: saved,
+            saved,
         };
-    }
-    let state = read.state;
+    };
     let applied = event_step::apply(
-        restore(
-            saved.buffer,
-            saved.sending,
-            state,
-            saved.outgoing,
-            saved.ptt,
-            saved.channel,
-        ),
+        restore(saved, state),
         kind,
         body,
         reader,
@@ -102,81 +94,44 @@ pub fn iflazrud_tnc_event(
     tell(applied)
 }
 
-fn numbers_of(state: State) -> StateNumbers
-    ensures { result ≡ state_numbers state }
-{
-    match state {
-        State::Idle => return StateNumbers { kind: 0, value: 0 },
-        State::RxAcquiringStream(mask) => return StateNumbers {
-            kind: 1,
-            value: mask as u64,
-        },
-        State::RxStream(expected) => return StateNumbers {
-            kind: 2,
-            value: expected as u64,
-        },
-        State::RxPacket(count) => return StateNumbers {
-            kind: 3,
-            value: count as u64,
-        },
-        State::TxStream => return StateNumbers { kind: 4, value: 0 },
-        State::TxStreamSentEndOfStream => return StateNumbers { kind: 5, value: 0 },
-        State::TxPacket => return StateNumbers { kind: 6, value: 0 },
-        State::TxEnding => return StateNumbers { kind: 7, value: 0 },
-        State::TxEndingAtTime(end) => return StateNumbers {
-            kind: 8,
-            value: end,
-        },
+impl From<State> for StateNumbers {
+    ghost from_gives = { λ state numbers. numbers ≡ state_numbers state };
+
+    fn from(state: State) -> StateNumbers {
+        let (kind, value) = match state {
+            State::Idle => (0, 0),
+            State::RxAcquiringStream(mask) => (1, u64::from(mask)),
+            State::RxStream(expected) => (2, u64::from(expected)),
+            State::RxPacket(count) => (3, count as u64),
+            State::TxStream => (4, 0),
+            State::TxStreamSentEndOfStream => (5, 0),
+            State::TxPacket => (6, 0),
+            State::TxEnding => (7, 0),
+            State::TxEndingAtTime(end) => (8, end),
+        };
+        StateNumbers { kind, value }
     }
 }
 
-fn state_of(kind: u8, value: u64) -> StateRead
-    ensures { result ≡ state_read kind value }
-{
-    if 8 < kind {
-        return StateRead {
-            valid: false,
-            state: State::Idle,
-        };
-    }
-    let plain = value == 0;
-    match kind {
-        1 => return StateRead {
-            valid: value <= 255,
-            state: State::RxAcquiringStream((value % 256) as u8),
-        },
-        2 => return StateRead {
-            valid: value <= 65535,
-            state: State::RxStream((value % 65536) as u16),
-        },
-        3 => return StateRead {
-            valid: true,
-            state: State::RxPacket(value as usize),
-        },
-        4 => return StateRead {
-            valid: plain,
-            state: State::TxStream,
-        },
-        5 => return StateRead {
-            valid: plain,
-            state: State::TxStreamSentEndOfStream,
-        },
-        6 => return StateRead {
-            valid: plain,
-            state: State::TxPacket,
-        },
-        7 => return StateRead {
-            valid: plain,
-            state: State::TxEnding,
-        },
-        8 => return StateRead {
-            valid: true,
-            state: State::TxEndingAtTime(value),
-        },
-        _ => return StateRead {
-            valid: plain,
-            state: State::Idle,
-        },
+impl TryFrom<StateNumbers> for State {
+    type Error = NoState;
+
+    ghost try_from_gives = { λ numbers state. state ≡ state_read numbers.kind numbers.value };
+
+    fn try_from(numbers: StateNumbers) -> Result<State, NoState> {
+        let value = numbers.value;
+        match numbers.kind {
+            0 if value == 0 => Ok(State::Idle),
+            1 if value <= 255 => Ok(State::RxAcquiringStream(value as u8)),
+            2 if value <= 65535 => Ok(State::RxStream(value as u16)),
+            3 => Ok(State::RxPacket(value as usize)),
+            4 if value == 0 => Ok(State::TxStream),
+            5 if value == 0 => Ok(State::TxStreamSentEndOfStream),
+            6 if value == 0 => Ok(State::TxPacket),
+            7 if value == 0 => Ok(State::TxEnding),
+            8 => Ok(State::TxEndingAtTime(value)),
+            _ => Err(NoState),
+        }
     }
 }
 
@@ -194,43 +149,31 @@ fn tell(applied: Applied) -> EventAnswer
 fn save(tnc: Tnc, channel: Channel) -> Saved
     ensures { result ≡ saved_of (record { tnc = tnc; channel = channel }) }
 {
-    let buffer = tnc.buffer;
-    let sending = tnc.sending;
-    let radio = tnc.radio;
-    let state = radio.state;
-    let outgoing = radio.outgoing;
-    let numbers = numbers_of(state);
+    let numbers = StateNumbers::from(tnc.radio.state);
     Saved {
-        buffer: buffer,
-        sending: sending,
+        buffer: tnc.buffer,
+        sending: tnc.sending,
         state: numbers.kind,
         value: numbers.value,
-        outgoing: outgoing,
+        outgoing: tnc.radio.outgoing,
         ptt: tnc.ptt,
-        channel: channel,
+        channel,
     }
 }
 
-fn restore(
-    buffer: KissBuffer,
-    sending: Sending,
-    state: State,
-    outgoing: Outgoing,
-    ptt: bool,
-    channel: Channel,
-) -> EventBox
-    ensures { result ≡ box_of buffer sending state outgoing ptt channel }
+fn restore(saved: Saved, state: State) -> EventBox
+    ensures { result ≡ box_of saved.buffer saved.sending state saved.outgoing saved.ptt saved.channel }
 {
     EventBox {
         tnc: Tnc {
-            buffer: buffer,
-            sending: sending,
+            buffer: saved.buffer,
+            sending: saved.sending,
             radio: Radio {
-                state: state,
-                outgoing: outgoing,
+                state,
+                outgoing: saved.outgoing,
             },
-            ptt: ptt,
+            ptt: saved.ptt,
         },
-        channel: channel,
+        channel: saved.channel,
     }
 }

@@ -1,7 +1,10 @@
 -- `event_step::host_byte` meets its contract. Assumes nothing.
+use Rattle.std.proofs.Common.{refl}
 use borrow.Author.Tests.{eq-eqb, ne_eqb}
 use lib.ListN.{length}
 use Rattle.choice.specs.Pick.{pick_yes, pick_no}
+use Rattle.kiss_calls.specs.Calls.{write_number}
+use Rattle.event_answer.proofs.Numbers.{numbered}
 use Rattle.event_step.proofs.Answers.{write_is}
 use Rattle.event_step.proofs.host_byte.Goals as goal
 
@@ -11,4 +14,4 @@ returns-then-body-ne1 c = let a = c.args in pick_no _ (ne_eqb (length a.body.now
 pub returns : goal.returns
 returns c =
     pick_yes _ (eq-eqb (length c.args.body.now) 1 c.if-body-ne1.false)
-    (write_is c.write_kiss-written.result c.write_kiss-written.new.reader c.write_kiss-written.new.packets c.write_kiss-written.new.streams c.answer.ensures c.write_number.ensures c.write_kiss-written.ensures)
+    (write_is c.write_kiss-written.result c.write_kiss-written.new.reader c.write_kiss-written.new.packets c.write_kiss-written.new.streams c.answer.ensures (numbered _ write_number (λ _. refl) (λ _. refl) _ c.number_of.ensures) c.write_kiss-written.ensures)

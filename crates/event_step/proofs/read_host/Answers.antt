@@ -1,11 +1,13 @@
 -- `event_step::read_host` meets its contract. Assumes nothing.
-use Rattle.std.proofs.Common.{◌≤◌, ◌≡◌, sym, ◌∙◌, arith}
+use Rattle.std.proofs.Common.{◌≤◌, ◌≡◌, refl, sym, ◌∙◌, arith}
 use borrow.Author.Tests.{eq-eqb, ne_eqb, le-leb, lt-leb}
 use lib.ListN.{length, get_or}
 use lib.Seq.{length-take-le}
 use Rattle.choice.specs.Pick.{pick_yes, pick_no}
 use Rattle.event_answer.specs.Answer.{MOST}
-use Rattle.event_step.proofs.Answers.{read_part}
+use Rattle.outgoing.specs.Message.{host_number}
+use Rattle.event_answer.proofs.Numbers.{numbered}
+use Rattle.event_step.proofs.Answers.{counted, read_part}
 use Rattle.event_step.proofs.read_host.Goals as goal
 
 pub overflow_cast-most : goal.overflow_cast-most
@@ -35,4 +37,4 @@ returns c =
     let a = c.args in let as_long : get_or a.body.now 0 0 ≡ length c.read_kiss-read.new.target = sym (c.read_kiss-read.auto.target ∙ length-take-le (get_or a.body.now 0 0) a.bytes.now (within)) in
     pick_yes _ (eq-eqb (length a.body.now) 1 c.if-body-ne1.false)
     (pick_yes _ (le-leb MOST (length a.bytes.now) c.if-bytes-lt-MOST_BYTES.false)
-    (read_part a.before.channel c.read_kiss-read.result a.bytes.now c.read_kiss-read.new.target (get_or a.body.now 0 0) as_long c.answer.ensures c.host_number.ensures c.read_kiss-read.ensures))
+    (read_part a.before.channel c.read_kiss-read.result a.bytes.now c.read_kiss-read.new.target (get_or a.body.now 0 0) as_long (counted _ c.unwrap_or.ensures) c.answer.ensures (numbered _ host_number (λ _. refl) (λ _. refl) _ c.number_of.ensures) c.read_kiss-read.ensures))

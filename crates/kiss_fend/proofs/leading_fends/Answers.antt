@@ -1,21 +1,15 @@
--- `kiss_fend::leading_fends` meets its contract. The invariant: the count so far and that of what is left make the count of all. Assumes nothing.
-use Rattle.std.proofs.Common.{◌-◌, arith}
-use borrow.Author.Tests.{eq-eqb, ne_eqb}
-use lib.ListN.{get_or}
-use Rattle.kiss_layout.specs.Escape.{FEND}
+-- `kiss_fend::leading_fends` meets its contract. Assumes nothing.
+use Rattle.std.proofs.Common.{◌∙◌, rules, tests}
+use Rattle.std.proofs.lemmas.Iterator.{YieldsList-from_slice}
+use Rattle.std.proofs.lemmas.Iterator.Consumers.{count_from_yields_List}
+use Rattle.std.proofs.lemmas.Iterator.Search.{YieldsList-from_take_while}
 use Rattle.kiss_layout.specs.Scan.{is_fend}
-use Rattle.kiss_layout.proofs.Scans.{run_on, run_stops, run_ends}
+use Rattle.kiss_fend.proofs.Past.{run-while}
 use Rattle.kiss_fend.proofs.leading_fends.Goals as goal
 
-pub returns-then-s-i : goal.returns-then-s-i
-returns-then-s-i c =
-    let s = c.args.s.now in
-    omega (arith, run_stops is_fend s c.loop-i.i c.loop-i-test.true (ne_eqb (get_or s c.loop-i.i 0) FEND c.if-s-i.true))
-
-pub loop-i-preserved : goal.loop-i-preserved
-loop-i-preserved c =
-    let s = c.args.s.now in
-    omega (arith, run_on is_fend s c.loop-i.i c.loop-i-test.true (eq-eqb (get_or s c.loop-i.i 0) FEND c.if-s-i.false))
-
 pub returns : goal.returns
-returns c = omega (arith, run_ends is_fend c.args.s.now c.loop-i.i c.loop-i-test.false)
+returns c =
+    let s = c.args.s.now in
+    count_from_yields_List c.take_while.result _ c.count.ensures.ran
+    (YieldsList-from_take_while _ is_fend (YieldsList-from_slice s (cc)) c.take_while.ensures.closure c.take_while.ensures.done (λ x b q k. search (rules, tests)))
+    ∙ run-while is_fend s

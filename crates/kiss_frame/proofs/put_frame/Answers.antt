@@ -3,7 +3,7 @@ use Rattle.std.proofs.Common.{ℕ, ◌+◌, ◌≤◌, ◌<◌, ◌≡◌, sym, 
 use mathlib.Core.List.{List, ◌++◌}
 use borrow.Author.Tests.{leb-true, leb-false}
 use lib.ListN.{length, set, length-set}
-use lib.Seq.{sets, length-sets}
+use lib.Seq.{sets}
 use Rattle.room.specs.Room.{over}
 use Rattle.std.specs.Prelude.{Ok}
 use Rattle.kiss_layout.specs.Escape.{FEND, esc}

@@ -1,29 +1,21 @@
--- `kiss_length::escaped_len` meets its contract. The invariant says what is left to count. Assumes nothing.
-use Rattle.std.proofs.Common.{◌+◌, ◌-◌, ◌≡◌, refl, ap, arith}
-use lib.ListN.{length, drop}
-use Rattle.kiss_layout.specs.Escape.{esc}
-use Rattle.kiss_layout.proofs.Escapes.{esc-length, esc_at_special, esc_at_plain, esc-done}
+-- `kiss_length::escaped_len` meets its contract. Assumes nothing.
+use Rattle.std.proofs.Common.{◌^◌, ◌∙◌, arith, rules, tests}
+use Rattle.std.proofs.lemmas.Iterator.{YieldsList-from_slice, YieldsList-from_map}
+use Rattle.std.proofs.lemmas.Iterator.Consumers.{sum_by_from_yields_List, fits_by_from_yields_list}
+use Rattle.kiss_layout.proofs.Escapes.{esc-length}
+use Rattle.kiss_length.proofs.Lengths.{places, places-all}
 use Rattle.kiss_length.proofs.escaped_len.Goals as goal
 
-pub overflow_add-n : goal.overflow_add-n
-overflow_add-n c =
-    let left_special : let s = c.args.src.now in length (esc (drop c.loop-i.i s)) ≡ 2 + length (esc (drop (c.loop-i.i + 1) s)) = omega (arith, ap length (esc_at_special c.args.src.now c.loop-i.i c.loop-i-test.true c.if-b.true refl)) in
-    omega (arith, esc-length c.args.src.now, left_special)
-
-pub loop-i-preserved-then-b : goal.loop-i-preserved-then-b
-loop-i-preserved-then-b c =
-    let left_special : let s = c.args.src.now in length (esc (drop c.loop-i.i s)) ≡ 2 + length (esc (drop (c.loop-i.i + 1) s)) = omega (arith, ap length (esc_at_special c.args.src.now c.loop-i.i c.loop-i-test.true c.if-b.true refl)) in
-    omega (arith, left_special)
-
-pub overflow_add-n-else-b : goal.overflow_add-n-else-b
-overflow_add-n-else-b c =
-    let left-plain : let s = c.args.src.now in length (esc (drop c.loop-i.i s)) ≡ 1 + length (esc (drop (c.loop-i.i + 1) s)) = omega (arith, ap length (esc_at_plain c.args.src.now c.loop-i.i c.loop-i-test.true c.if-b.false)) in
-    omega (arith, esc-length c.args.src.now, left-plain)
-
-pub loop-i-preserved : goal.loop-i-preserved
-loop-i-preserved c =
-    let left-plain : let s = c.args.src.now in length (esc (drop c.loop-i.i s)) ≡ 1 + length (esc (drop (c.loop-i.i + 1) s)) = omega (arith, ap length (esc_at_plain c.args.src.now c.loop-i.i c.loop-i-test.true c.if-b.false)) in
-    omega (arith, left-plain)
+pub sum-requires-clause-fits : goal.sum-requires-clause-fits
+sum-requires-clause-fits c =
+    let s = c.args.src.now in
+    fits_by_from_yields_list places s c.map.result (2 ^ 64)
+    (YieldsList-from_map _ places (YieldsList-from_slice s (cc)) c.map.ensures.closure (λ x b q k. search (rules, tests)))
+    (omega (arith, places-all s, esc-length s))
 
 pub returns : goal.returns
-returns c = omega (arith, ap length (esc-done c.args.src.now c.loop-i.i c.loop-i-test.false))
+returns c =
+    let s = c.args.src.now in
+    sum_by_from_yields_List places s c.map.result _ c.sum.ensures.ran
+    (YieldsList-from_map _ places (YieldsList-from_slice s (cc)) c.map.ensures.closure (λ x b q k. search (rules, tests)))
+    ∙ places-all s
