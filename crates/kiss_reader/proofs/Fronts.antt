@@ -12,7 +12,7 @@ use lib.Seq.{take_all}
 use borrow.Author.Tests.{eq-eqb, ne_eqb, ltb-true, ltb-false}
 use Rattle.std.specs.Prelude.{None, Some}
 use Rattle.std.specs.Bool.{then_some}
-use Rattle.std.specs.Option.{is_some as has}
+use Rattle.std.specs.Option.{is_some as has, unwrap_or}
 use Rattle.choice.specs.Pick.{and}
 use Rattle.kiss_layout.specs.Escape.{FEND}
 use Rattle.kiss_layout.specs.Scan.{not_fend, run_of}
@@ -60,6 +60,10 @@ pub length-some : (o : Option (List ℕ)) → has (length_of o) ≡ is_some o
 length-some none = refl
 length-some (some f) = refl
 
+pub length-or_empty : (o : Option (List ℕ)) → unwrap_or (length_of o) 0 ≡ length (or_empty o)
+length-or_empty none = refl
+length-or_empty (some f) = refl
+
 -- ---- stands_first
 
 get_d_any : (l : List ℕ) (i a b : ℕ) → i < length l → get_or l i a ≡ get_or l i b
@@ -86,6 +90,10 @@ pub stands_empty : (h : List ℕ) → 2 ≤ length h → get_or h 1 0 ≡ FEND �
 unfolding stands_first
 stands_empty h l e = rw (get_d_any h 1 FEND 0 (omega arith), eq-eqb (get_or h 1 0) FEND e) (no_second _ _)
 
-pub stands_closed : (h : List ℕ) → 2 ≤ length h → get_or h 0 0 ≡ FEND → (get_or h 1 0 ≡ FEND → ⊥) → stands_first h ≡ ltb (run_of not_fend (drop 2 h)) (length (drop 2 h))
+stands_further : (h : List ℕ) → 2 ≤ length h → get_or h 0 0 ≡ FEND → (get_or h 1 0 ≡ FEND → ⊥) → stands_first h ≡ ltb (run_of not_fend (drop 2 h)) (length (drop 2 h))
 unfolding stands_first and
-stands_closed h l e f = rw (eq-eqb (get_or h 0 0) FEND e, get_d_any h 1 FEND 0 (omega arith), ne_eqb (get_or h 1 0) FEND f) (stretch_tested (drop 2 h))
+stands_further h l e f = rw (eq-eqb (get_or h 0 0) FEND e, get_d_any h 1 FEND 0 (omega arith), ne_eqb (get_or h 1 0) FEND f) (stretch_tested (drop 2 h))
+
+pub stands_closed : (h : List ℕ) (n : ℕ) → 2 ≤ length h → get_or h 0 0 ≡ FEND → (get_or h 1 0 ≡ FEND → ⊥) → n ≡ run_of not_fend (take (length h - 2) (drop 2 h))
+    → ltb n (length (take (length h - 2) (drop 2 h))) ≡ stands_first h
+stands_closed h n l e f q = rw (q, to_the_end 2 h) (sym (stands_further h l e f))
