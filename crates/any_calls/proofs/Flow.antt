@@ -125,8 +125,7 @@ module _ {A : Type 0} (L : PacketQueue → StreamQueue → List ℕ → List ℕ
 
         by_command_lem : (c : (Result KissCommand KissError)) (port : ℕ)
             → Adds x (boxed (pick (ltb 2 port) (x.host, x.packets, x.streams) (by_command c port x.host f x.packets x.streams))) (of_data (basic x f) (full x f) (stream x f) (Ok port) c)
-        by_command_lem (Err NoCommand) port = still (ltb 2 port) x _ refl same
-        by_command_lem (Err NoSuch) port = still (ltb 2 port) x _ refl same
+        by_command_lem (Err e) port = still (ltb 2 port) x _ refl same
         by_command_lem (Ok DataFrame) port = by_data (ltb 2 port) (eqb port 0) (eqb port 1) port refl refl
         by_command_lem (Ok TxDelay) port = still (ltb 2 port) _ _ refl (delays (setting_in f))
         by_command_lem (Ok P) port = still (ltb 2 port) x _ refl same
@@ -134,7 +133,7 @@ module _ {A : Type 0} (L : PacketQueue → StreamQueue → List ℕ → List ℕ
 
         by_port_lem : (p : (Result ℕ KissError)) → Adds x (boxed (by_port p x.host f x.packets x.streams)) (of_data (basic x f) (full x f) (stream x f) p (command_read f))
         unfolding obeyed_on
-        by_port_lem (Err NoPort) = same
+        by_port_lem (Err e) = same
         by_port_lem (Ok port) = by_command_lem (command_read f) port
 
         one_frame : Adds x (after_frame x f) (g x f)

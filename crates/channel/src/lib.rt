@@ -1,8 +1,10 @@
 // The channel, as m17core's tnc.rs has it: clock, carrier, a check that waits, and duplex. `channel_access` says whether one may send.
 #![tactic(auto)]
 
-ghost use Rattle.std.specs.Prelude.{◌≡◌};
-ghost use Rattle.channel.specs.Access.{new_channel, sound_channel, clock_set, carrier_set, duplex_set};
+ghost use Rattle.std.specs.Prelude.{◌≡◌, Ok, Err};
+ghost use Rattle.choice.specs.Pick.{pick};
+ghost use Rattle.channel.specs.declared.ChannelError.TheVariants.{OutOfBounds};
+ghost use Rattle.channel.specs.Access.{new_channel, sound_channel, is_set, clock_set, carrier_set, duplex_set, channel_number};
 
 #[repr(C)]
 #[derive(Clone, Copy)]
@@ -47,6 +49,17 @@ const LAST: u64 = 4611686018427387904;
 
 pub const SLOT: u64 = 1920;
 
+impl From<ChannelError> for u8 {
+    ghost from_gives = { λ error n. n ≡ channel_number error };
+
+    fn from(error: ChannelError) -> u8 {
+        match error {
+            ChannelError::OutOfRange => 6,
+            ChannelError::OutOfBounds => 8,
+        }
+    }
+}
+
 impl Channel {
     pub fn new() -> Self
         ensures { result ≡ new_channel }
@@ -63,52 +76,45 @@ impl Channel {
     pub fn is_sound(self) -> bool
         ensures { result ≡ sound_channel self }
     {
-        if LAST < self.clock {
-            return false;
-        }
-        self.check <= LAST + SLOT
+        self.clock <= LAST && self.check <= LAST + SLOT
     }
 
-    pub fn set_now(mut self, now_samples: u64) -> ChannelSet
+    pub fn set_now(self, now_samples: u64) -> ChannelSet
         ensures { result ≡ clock_set self now_samples }
     {
-        if !self.is_sound() {
-            return ChannelSet {
-                answer: Err(ChannelError::OutOfBounds),
-                channel: self,
-            };
-        }
-        if LAST < now_samples {
+        if self.is_sound() && LAST < now_samples {
             return ChannelSet {
                 answer: Err(ChannelError::OutOfRange),
                 channel: self,
             };
         }
-        self.clock = now_samples;
-        ChannelSet {
-            answer: Ok(()),
-            channel: self,
-        }
+        self.set_to(Channel {
+            clock: now_samples,
+            ..self
+        })
     }
 
-    pub fn set_data_carrier_detect(mut self, dcd: bool) -> ChannelSet
+    pub fn set_data_carrier_detect(self, dcd: bool) -> ChannelSet
         ensures { result ≡ carrier_set self dcd }
     {
-        if !self.is_sound() {
-            return ChannelSet {
-                answer: Err(ChannelError::OutOfBounds),
-                channel: self,
-            };
-        }
-        self.carrier = dcd;
-        ChannelSet {
-            answer: Ok(()),
-            channel: self,
-        }
+        self.set_to(Channel {
+            carrier: dcd,
+            ..self
+        })
     }
 
-    pub fn set_full_duplex(mut self, full_duplex: bool) -> ChannelSet
+    pub fn set_full_duplex(self, full_duplex: bool) -> ChannelSet
         ensures { result ≡ duplex_set self full_duplex }
+    {
+        self.set_to(Channel {
+            duplex: full_duplex,
+            ..self
+        })
+    }
+
+    // A record out of its bounds stays.
+    fn set_to(self, channel: Channel) -> ChannelSet
+        ensures { result ≡ pick (sound_channel self) (is_set (Ok tt) channel) (is_set (Err OutOfBounds) self) }
     {
         if !self.is_sound() {
             return ChannelSet {
@@ -116,10 +122,9 @@ impl Channel {
                 channel: self,
             };
         }
-        self.duplex = full_duplex;
         ChannelSet {
             answer: Ok(()),
-            channel: self,
+            channel,
         }
     }
 }

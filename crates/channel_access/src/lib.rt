@@ -1,8 +1,9 @@
 // Channel access, as m17core's tnc.rs has it, behind `channel`, which has the record and the definitions.
 #![tactic(auto)]
 
-ghost use Rattle.std.specs.Prelude.{true, ◌≡◌};
-ghost use Rattle.channel.specs.Access.{sound_channel, check_later, check_due, accessed};
+ghost use Rattle.std.specs.Prelude.{true, ◌≡◌, Ok};
+ghost use Rattle.channel.specs.declared.Access.TheVariants.{Sends};
+ghost use Rattle.channel.specs.Access.{sound_channel, is_accessed, check_later, check_due, accessed};
 
 use channel::{Access, Accessed, Channel, ChannelError, SLOT};
 
@@ -13,14 +14,11 @@ pub fn access(channel: Channel) -> Accessed
     if !channel.is_sound() {
         return Accessed {
             answer: Err(ChannelError::OutOfBounds),
-            channel: channel,
+            channel,
         };
     }
     if channel.duplex {
-        return Accessed {
-            answer: Ok(Access::Sends),
-            channel: channel,
-        };
+        return sends(channel);
     }
     if channel.waits {
         return check_due(channel);
@@ -28,44 +26,48 @@ pub fn access(channel: Channel) -> Accessed
     if channel.carrier {
         return check_later(channel);
     }
-    Accessed {
-        answer: Ok(Access::Sends),
-        channel: channel,
-    }
+    sends(channel)
 }
 
 // A check is pending. One time in four that it is due and finds the channel clear it sends, so that two boxes which wait for the same end do not both start.
-fn check_due(mut channel: Channel) -> Accessed
+fn check_due(channel: Channel) -> Accessed
     requires { sound_channel channel ≡ true }
     ensures { result ≡ check_due channel }
 {
     if channel.clock < channel.check {
         return Accessed {
             answer: Ok(Access::Waits),
-            channel: channel,
+            channel,
         };
     }
-    if channel.carrier {
+    if channel.carrier || channel.clock % 4 != 3 {
         return check_later(channel);
     }
-    if channel.clock % 4 != 3 {
-        return check_later(channel);
-    }
-    channel.waits = false;
-    Accessed {
-        answer: Ok(Access::Sends),
-        channel: channel,
-    }
+    sends(Channel {
+        waits: false,
+        ..channel
+    })
 }
 
-fn check_later(mut channel: Channel) -> Accessed
+fn check_later(channel: Channel) -> Accessed
     requires { sound_channel channel ≡ true }
     ensures { result ≡ check_later channel }
 {
-    channel.waits = true;
-    channel.check = channel.clock + SLOT;
     Accessed {
         answer: Ok(Access::Waits),
-        channel: channel,
+        channel: Channel {
+            waits: true,
+            check: channel.clock + SLOT,
+            ..channel
+        },
+    }
+}
+
+fn sends(channel: Channel) -> Accessed
+    ensures { result ≡ is_accessed (Ok Sends) channel }
+{
+    Accessed {
+        answer: Ok(Access::Sends),
+        channel,
     }
 }

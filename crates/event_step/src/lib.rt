@@ -102,10 +102,8 @@ fn number(bytes: &[u8]) -> u64
     ensures { result ≡ number_of bytes.now }
 {
     let mut n: u64 = 0;
-    let mut i = 0;
-    while i < bytes.len() {
-        n = n % SEVEN_BYTES * 256 + (bytes[i] as u64);
-        i += 1;
+    for byte in bytes {
+        n = n % SEVEN_BYTES * 256 + (*byte as u64);
     }
     n
 }

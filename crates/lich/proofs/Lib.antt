@@ -1,3 +1,4 @@
 pub mod Masks
 pub mod Collected
+pub mod Assembled
 pub mod Kept

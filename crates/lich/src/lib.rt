@@ -2,7 +2,7 @@
 #![tactic(auto)]
 
 ghost use Rattle.std.specs.Prelude.{◌≡◌};
-ghost use Rattle.lich.specs.Lich.{new_collection, valid_segments, segment_set, assembled};
+ghost use Rattle.lich.specs.Lich.{new_collection, valid_segments, segment_set, assembled, lich_number};
 
 // Six segments of five bytes, and a mask whose bit i is set once segment i has been heard. A mask of 64 or more is no state of a collection.
 #[derive(Clone, Copy)]
@@ -23,6 +23,20 @@ pub struct SegmentSet {
     pub collection: LichCollection,
 }
 
+// A mask has a bit for each segment.
+const MASKS: u8 = 64;
+
+impl From<LichError> for u8 {
+    ghost from_gives = { λ error n. n ≡ lich_number error };
+
+    fn from(error: LichError) -> u8 {
+        match error {
+            LichError::IndexOver5 => 6,
+            LichError::OutOfBounds => 8,
+        }
+    }
+}
+
 impl LichCollection {
     pub fn new() -> Self
         ensures { result ≡ new_collection }
@@ -37,17 +51,16 @@ impl LichCollection {
     pub fn valid_segments(self) -> Result<usize, LichError>
         ensures { result ≡ valid_segments self }
     {
-        let mask = self.mask;
-        if 64 <= mask {
+        if MASKS <= self.mask {
             return Err(LichError::OutOfBounds);
         }
-        Ok(u8::count_ones(mask) as usize)
+        Ok(self.mask.count_ones() as usize)
     }
 
     pub fn set_segment(mut self, counter: u8, part: [u8; 5]) -> SegmentSet
         ensures { result ≡ segment_set self counter part }
     {
-        if 64 <= self.mask {
+        if MASKS <= self.mask {
             return SegmentSet {
                 answer: Err(LichError::OutOfBounds),
                 collection: self,
@@ -59,11 +72,9 @@ impl LichCollection {
                 collection: self,
             };
         }
-        let mut segments = self.segments;
-        let at = 5 * (counter as usize);
-        store::copy_in(&part, &mut segments, at);
-        self.segments = segments;
-        self.mask = self.mask | (1u8 << counter);
+        let at = 5 * counter as usize;
+        self.segments[at..at + 5].copy_from_slice(&part);
+        self.mask |= 1 << counter;
         SegmentSet {
             answer: Ok(()),
             collection: self,
@@ -75,9 +86,6 @@ impl LichCollection {
         ensures { result ≡ assembled self }
     {
         let heard = self.valid_segments()?;
-        if heard == 6 {
-            return Ok(Some(self.segments));
-        }
-        Ok(None)
+        Ok((heard == 6).then_some(self.segments))
     }
 }

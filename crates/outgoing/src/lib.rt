@@ -33,9 +33,6 @@ impl Outgoing {
     pub fn is_sound(self) -> bool
         ensures { result ≡ sound_message self }
     {
-        if self.len < self.read {
-            return false;
-        }
-        self.len <= MAX_FRAME_LEN
+        self.read <= self.len && self.len <= MAX_FRAME_LEN
     }
 }

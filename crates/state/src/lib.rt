@@ -5,7 +5,7 @@ ghost use Rattle.std.specs.Prelude.{◌≡◌};
 ghost use Rattle.state.specs.State.{transmits, reception_of, transmission_of, sound_state};
 
 // The bytes that go with a reception stand in a store of the caller's: the LSF, or its LICH segments, and the packet.
-#[derive(Clone, Copy)]
+#[derive(Debug, Clone, Copy, PartialEq, Eq)]
 pub enum State {
     Idle,
     // Segments of an LSF are collected: the mask of those that have been heard.
@@ -23,7 +23,7 @@ pub enum State {
 }
 
 // What is being received, with the number that goes with it.
-#[derive(Clone, Copy)]
+#[derive(Debug, Clone, Copy, PartialEq, Eq)]
 pub enum Reception {
     Nothing,
     Acquiring(u8),
@@ -32,7 +32,7 @@ pub enum Reception {
 }
 
 // What is being sent.
-#[derive(Clone, Copy)]
+#[derive(Debug, Clone, Copy, PartialEq, Eq)]
 pub enum Transmission {
     // Nothing is: PTT is off, whether something is being received or not.
     Receiving,
@@ -49,15 +49,14 @@ impl State {
     pub fn ptt(self) -> bool
         ensures { result ≡ transmits self }
     {
-        match self {
-            State::Idle | State::RxAcquiringStream(_) | State::RxStream(_) | State::RxPacket(_) =>
-                false,
+        matches!(
+            self,
             State::TxStream
-            | State::TxStreamSentEndOfStream
-            | State::TxPacket
-            | State::TxEnding
-            | State::TxEndingAtTime(_) => true,
-        }
+                | State::TxStreamSentEndOfStream
+                | State::TxPacket
+                | State::TxEnding
+                | State::TxEndingAtTime(_)
+        )
     }
 
     pub fn reception(self) -> Reception
@@ -67,12 +66,7 @@ impl State {
             State::RxAcquiringStream(mask) => Reception::Acquiring(mask),
             State::RxStream(expected) => Reception::Stream(expected),
             State::RxPacket(count) => Reception::Packet(count),
-            State::Idle
-            | State::TxStream
-            | State::TxStreamSentEndOfStream
-            | State::TxPacket
-            | State::TxEnding
-            | State::TxEndingAtTime(_) => Reception::Nothing,
+            _ => Reception::Nothing,
         }
     }
 
@@ -80,12 +74,11 @@ impl State {
         ensures { result ≡ transmission_of self }
     {
         match self {
-            State::Idle | State::RxAcquiringStream(_) | State::RxStream(_) | State::RxPacket(_) =>
-                Transmission::Receiving,
             State::TxStream => Transmission::Stream,
             State::TxStreamSentEndOfStream => Transmission::StreamSent,
             State::TxPacket => Transmission::Packet,
             State::TxEnding | State::TxEndingAtTime(_) => Transmission::Ending,
+            _ => Transmission::Receiving,
         }
     }
 
@@ -96,12 +89,7 @@ impl State {
             State::RxAcquiringStream(mask) => mask < 64,
             State::RxPacket(count) => count <= 32,
             State::TxEndingAtTime(end) => end <= 4611686022722355200,
-            State::Idle
-            | State::RxStream(_)
-            | State::TxStream
-            | State::TxStreamSentEndOfStream
-            | State::TxPacket
-            | State::TxEnding => true,
+            _ => true,
         }
     }
 }

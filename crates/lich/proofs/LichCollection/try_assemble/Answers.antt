@@ -1,20 +1,14 @@
 -- `lich::LichCollection::try_assemble` meets its contract. Assumes nothing.
-use Rattle.std.proofs.Common.{sym, ◌∙◌}
-use Rattle.choice.specs.Pick.{tests}
-use Rattle.std.specs.Prelude.{Err}
-use Rattle.lich.specs.declared.LichError.TheVariants.{OutOfBounds as NoCount}
-use Rattle.lich.proofs.Collected.{by_count_lem}
+use Rattle.std.proofs.Common.{sym, ap, ◌∙◌}
+use Rattle.std.specs.Prelude.{Err, Ok}
+use Rattle.std.proofs.lemmas.Result.{err_from_is_err_and}
+use Rattle.lich.proofs.Assembled.{by_count_lem}
 use Rattle.lich.proofs.LichCollection.try_assemble.Goals as goal
 
-pub returns-in-OutOfBounds : goal.returns-in-OutOfBounds
-returns-in-OutOfBounds c = by_count_lem c.args.self (Err NoCount) (sym c.in-OutOfBounds.is ∙ c.valid_segments.ensures)
+pub returns-in_err-heard : goal.returns-in_err-heard
+returns-in_err-heard c =
+    let p = err_from_is_err_and c.from_residual.result c.from_residual.ensures.1 in
+    rw (p.1, p.2) (by_count_lem c.args.self _ (sym c.in_err-heard.was ∙ c.valid_segments.ensures))
 
-pub returns-then-n-eq6 : goal.returns-then-n-eq6
-returns-then-n-eq6 c =
-    let e = by_count_lem c.args.self _ (sym c.in-Count.is ∙ c.valid_segments.ensures) in
-    rw (← e) (search tests)
-
-pub returns-in-Count : goal.returns-in-Count
-returns-in-Count c =
-    let e = by_count_lem c.args.self _ (sym c.in-Count.is ∙ c.valid_segments.ensures) in
-    rw (← e) (search tests)
+pub returns : goal.returns
+returns c = ap Ok c.then_some.ensures ∙ by_count_lem c.args.self _ (sym c.in_ok-heard.was ∙ c.valid_segments.ensures)
