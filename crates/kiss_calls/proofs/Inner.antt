@@ -9,10 +9,7 @@ use lib.Dec.{ltb}
 use lib.ListN.{length, take, drop, get_or, length-append, length-drop, length-take}
 use lib.Seq.{sets, sets-eq, take-nil, drop-drop}
 use borrow.Author.Tests.{ltb-true, ltb-false}
-use Rattle.std.specs.Prelude.{Result}
-use Rattle.room.specs.declared.NoRoom.{NoRoom}
-use Rattle.room.specs.Room.{over, shifted}
-use Rattle.room.proofs.Copies.{shifted_in}
+use Rattle.room.specs.Room.{over}
 use Rattle.kiss_layout.specs.Escape.{FEND}
 use Rattle.kiss_layout.specs.Scan.{not_fend, run_of}
 use Rattle.kiss_reader.specs.Reader.{settle, front}
@@ -48,16 +45,16 @@ pub settled_within : (from filled n : ℕ) (store : List ℕ) → from ≤ fille
 settled_within from filled n store h k e =
     omega (arith, settle_within (take (filled - from) (drop from store)), length-take (filled - from) (drop from store), length-drop from store)
 
--- what `shift` leaves of them, and how many they are
-pub compacted-by : (from filled n : ℕ) (store : List ℕ) {r : (Result (Unit {0}) NoRoom)} {d : List ℕ} → from ≤ filled → filled ≤ length store
-    → n ≡ settle_at (take (filled - from) (drop from store)) → (r, d) ≡ shifted store (from + n) filled → (filled - (from + n), d) ≡ compacted from filled store
+-- what is left once they were moved to the store's start, and how many they are
+pub compacted-by : (from filled n : ℕ) (store : List ℕ) {d : List ℕ} → from ≤ filled → filled ≤ length store → n ≡ settle_at (take (filled - from) (drop from store))
+    → d ≡ over (take (filled - (from + n)) (drop (from + n) store)) store → (filled - (from + n), d) ≡ compacted from filled store
 unfolding compacted
 compacted-by from filled n store h k e q =
     let w = settled_within from filled n store h k e in
     let p = settled_part from filled n store h k e in
     let m : filled - (from + n) ≡ length (settle (drop from (take filled store))) =
     omega (arith, ap length p, length-take (filled - (from + n)) (drop (from + n) store), length-drop (from + n) store, w, k) in
-    let o = shifted_in store (from + n) filled q w k ∙ ap (λ (l : List ℕ). over l store) p in
+    let o = q ∙ ap (λ (l : List ℕ). over l store) p in
     λ t. (m t, o t)
 
 -- ---- accept

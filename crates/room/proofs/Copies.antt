@@ -1,11 +1,13 @@
 -- What callers use of `copied` and `shifted`. Assumes nothing.
-use mathlib.Core.Path.{◌≡◌, refl, ap, ◌∙◌}
+use mathlib.Core.Path.{◌≡◌, refl, sym, ap, ◌∙◌}
 use mathlib.Core.Bool.{Bool, true, false}
 use mathlib.Core.List.{List}
 use Prim.Native.Nat.{ℕ, ◌+◌, ◌-◌, ◌≤◌, ◌<◌}
 use lib.Dec.{leb}
-use lib.ListN.{length, take, drop}
-use lib.Seq.{sets, sets-eq}
+use native.Mathlib.Nat.{zero-add}
+use native.Mathlib.Omega.{arith}
+use lib.ListN.{length, take, drop, length-drop, take-append-drop}
+use lib.Seq.{sets, sets-eq, paste, length-take-le}
 use borrow.Author.Tests.{le-leb, lt-leb}
 use Rattle.choice.specs.Pick.{pick, and}
 use Rattle.room.specs.Room.{over, copied, shifted, no_room}
@@ -43,3 +45,11 @@ shifted-turned d from to h = rw (lt-leb from to h)
 -- what `shift` left in a room that has those bytes
 pub shifted_in : (d : List ℕ) (from to : ℕ) {r : (Result (Unit {0}) NoRoom)} {e : List ℕ} → (r, e) ≡ shifted d from to → from ≤ to → to ≤ length d → e ≡ over (take (to - from) (drop from d)) d
 shifted_in d from to e h k = ap (λ (p : Result (Unit {0}) NoRoom × List ℕ). p.1) (e ∙ shifted-yes d from to h k)
+
+-- bytes moved down by no place
+pub moved_none : (s : List ℕ) (n k : ℕ) → n ≡ 0 → k ≤ length s → s ≡ over (take k (drop n s)) s
+moved_none s n k e h = rw (e, length-take-le k s h) (sym (take-append-drop k s))
+
+-- k bytes moved down by n places
+pub moved : (s : List ℕ) (n k : ℕ) → k + n ≤ length s → paste s 0 (drop n s) k ≡ over (take k (drop n s)) s
+moved s n k h = rw (zero-add k, length-take-le k (drop n s) (omega (arith, length-drop n s)))
