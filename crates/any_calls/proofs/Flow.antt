@@ -11,7 +11,6 @@ use Rattle.kiss_layout.specs.declared.KissCommand.TheVariants.{DataFrame, TxDela
 use Rattle.std.specs.Prelude.{Option, ℕ, None, Some, Result, Ok, Err}
 use Rattle.kiss_layout.specs.declared.KissCommand.{KissCommand}
 use Rattle.kiss_layout.specs.declared.KissError.{KissError}
-use Rattle.kiss_layout.specs.declared.KissError.TheVariants.{MalformedKissFrame as NoCommand, UnsupportedKissCommand as NoSuch, MalformedKissFrame as NoPort}
 use Rattle.kiss_layout.specs.Read.{port_read, command_read}
 use Rattle.kiss_calls.specs.declared.WriteError.{WriteError}
 use Rattle.kiss_calls.specs.declared.WriteError.TheVariants.{Full, WrongStore as NoRoom, OutOfBounds as NoState}

@@ -14,7 +14,6 @@ use Rattle.kiss_layout.specs.declared.KissError.{KissError}
 use Rattle.kiss_layout.specs.declared.KissCommand.{KissCommand}
 use Rattle.kiss_layout.specs.Read.{port_read, command_read}
 use Rattle.packets.specs.declared.PacketQueue.{PacketQueue}
-use Rattle.packets.specs.declared.PacketRead.{PacketRead}
 use Rattle.packets.specs.Frames.{Packet, AirFrame, frames_of, joined}
 use Rattle.packets.specs.Queue.{STORE as PACKETS, made_basic, made_full, pushed_basic, pushed_full, read_next, frames_in as frames_of_read}
 use Rattle.packets.specs.Promises.{Sound as PacketsSound}

@@ -2,7 +2,7 @@
 #![tactic(auto)]
 
 ghost use Rattle.std.specs.Prelude.{◌≡◌};
-ghost use Rattle.radio.specs.Radio.{sound_radio, turned};
+ghost use Rattle.radio.specs.Radio.{sound_radio, turned, air_error_number};
 
 use outgoing::Outgoing;
 use state::State;
@@ -31,28 +31,32 @@ pub struct Heard {
     pub radio: Radio,
 }
 
+impl From<AirError> for u8 {
+    ghost from_gives = { λ error n. n ≡ air_error_number error };
+
+    fn from(error: AirError) -> u8 {
+        match error {
+            AirError::OutOfRange => 6,
+            AirError::WrongStore => 7,
+            AirError::OutOfBounds => 8,
+        }
+    }
+}
+
 impl Radio {
     pub fn is_sound(self) -> bool
         ensures { result ≡ sound_radio self }
     {
-        let state = self.state;
-        if !state.is_sound() {
-            return false;
-        }
-        self.outgoing.is_sound()
+        self.state.is_sound() && self.outgoing.is_sound()
     }
 
     // Another state. The message that waits goes on waiting.
     pub fn turned(self, state: State) -> Heard
         ensures { result ≡ turned state self }
     {
-        let outgoing = self.outgoing;
         Heard {
             answer: Ok(()),
-            radio: Radio {
-                state: state,
-                outgoing: outgoing,
-            },
+            radio: Radio { state, ..self },
         }
     }
 }

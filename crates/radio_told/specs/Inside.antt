@@ -1,7 +1,6 @@
 -- What `told` makes of a builder's answer. From no document: no promise rests on these. Assumes nothing.
 use Rattle.std.specs.Prelude.{Result, ℕ, Ok, Err}
 use Rattle.kiss_layout.specs.declared.BuildError.{BuildError}
-use Rattle.kiss_layout.specs.declared.BuildError.TheVariants.{PayloadTooBig, LsfWrongSize, OutOfRange, NoRoom}
 use Rattle.outgoing.specs.declared.Outgoing.{Outgoing}
 use Rattle.outgoing.specs.Message.{no_message}
 use Rattle.state.specs.declared.State.{State}
@@ -11,10 +10,7 @@ use Rattle.radio.specs.Radio.{answered}
 -- the message that a builder's answer stands for
 abbrev pub message_of : Result ℕ BuildError → Outgoing
 message_of (Ok n) = record { len = n; read = 0 }
-message_of (Err PayloadTooBig) = no_message
-message_of (Err LsfWrongSize) = no_message
-message_of (Err OutOfRange) = no_message
-message_of (Err NoRoom) = no_message
+message_of (Err e) = no_message
 
 abbrev pub told_of : State → Result ℕ BuildError → Heard
 told_of s b = answered (Ok tt) (record { state = s; outgoing = message_of b })

@@ -13,19 +13,13 @@ use state::State;
 pub fn told(state: State, built: Result<usize, BuildError>) -> Heard
     ensures { result ≡ told_of state built }
 {
-    match built {
-        Ok(len) => return Heard {
-            answer: Ok(()),
-            radio: Radio {
-                state: state,
-                outgoing: Outgoing { len: len, read: 0 },
-            },
-        },
-        _ => return Heard {
-            answer: Ok(()),
-            radio: Radio {
-                state: state,
-                outgoing: Outgoing { len: 0, read: 0 },
+    Heard {
+        answer: Ok(()),
+        radio: Radio {
+            state,
+            outgoing: Outgoing {
+                len: built.unwrap_or(0),
+                read: 0,
             },
         },
     }

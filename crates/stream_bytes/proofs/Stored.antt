@@ -1,26 +1,15 @@
 -- The stores that make the 25 bytes of a stored frame. Assumes nothing.
-use mathlib.Core.Path.{◌≡◌, refl, sym, ap, ◌∙◌}
+use mathlib.Core.Path.{◌≡◌, refl, sym}
 use mathlib.Core.Bool.{Bool, true, false}
 use mathlib.Core.List.{List, ◌∷◌, ◌++◌}
 use Prim.Native.Nat.{ℕ, ◌+◌, ◌*◌, ◌/◌, ◌%◌, ◌<◌}
 use native.Mathlib.Omega.{arith}
 use lib.Dec.{leb}
-use lib.ListN.{length, take, get_or, set, length-append}
-use lib.Seq.{sets}
+use lib.ListN.{take, get_or}
 use borrow.Author.Tests.{leb-true, leb-false}
-use Rattle.room.proofs.Runs.{put_all, sets_append}
 use Rattle.protocol.specs.Lsf.{part}
 use Rattle.kiss_layout.specs.Stream.{stream_of}
-use Rattle.streams.specs.Layout.{FRAME, end_byte, bytes_of}
-
-pub frame-stored : (z lich voice : List ℕ) (i a b e : ℕ) → length z ≡ FRAME → length lich ≡ 5 → length voice ≡ 16
-    → sets (set (set (set (sets (set z 0 i) 1 lich) 6 a) 7 b) 8 e) 9 voice ≡ i ∷ (lich ++ (a ∷ b ∷ e ∷ voice))
-frame-stored z lich voice i a b e whole five sixteen =
-    let p : 1 + length lich ≡ 6 = omega arith in
-    let all : length (i ∷ (lich ++ (a ∷ b ∷ e ∷ voice))) ≡ length z = omega (arith, length-append lich (a ∷ b ∷ e ∷ voice)) in
-    sym (ap (λ (n : ℕ). sets (sets (set z 0 i) 1 lich) n (a ∷ b ∷ e ∷ voice)) p)
-    ∙ sym (sets_append (set z 0 i) 1 lich (a ∷ b ∷ e ∷ voice))
-    ∙ put_all z (i ∷ (lich ++ (a ∷ b ∷ e ∷ voice))) all
+use Rattle.streams.specs.Layout.{end_byte, bytes_of}
 
 end_stored : (x : ℕ) → x < 256 → end_byte (leb 128 x) ≡ x / 128
 end_stored x h = by (leb 128 x) refl

@@ -14,11 +14,11 @@ pub fn frame_bytes(payload: [u8; 30]) -> [u8; FRAME_LEN]
 {
     let mut bytes = [0u8; FRAME_LEN];
     bytes[0] = payload[5] / 32;
-    bytes[1..6].copy_from_slice(&payload[..5]);
     bytes[6] = payload[6] % 128;
     bytes[7] = payload[7];
     bytes[8] = payload[6] / 128;
     bytes[9..].copy_from_slice(&payload[8..24]);
+    bytes[1..6].copy_from_slice(&payload[..5]);
     bytes
 }
 

@@ -1,6 +1,6 @@
 -- `radio_hears::hears` meets its contract. Assumes nothing.
 use borrow.Author.Tests.{eq-eqb, ne_eqb}
-use Rattle.choice.specs.Pick.{pick, is_yes, is_no, not_yes, not_no}
+use Rattle.choice.specs.Pick.{pick, not_yes, not_no}
 use Rattle.radio.specs.Radio.{RX, MESSAGE, hears_by}
 use Rattle.std.proofs.Common.{ap}
 use mathlib.Core.Bool.{not}
@@ -20,14 +20,8 @@ returns-then-not-is_sound c =
     let a = c.args in
     rw (eq-eqb a.rx RX c.if-rx-ne-RX_STORE_LEN.false, eq-eqb a.out MESSAGE c.if-out-ne-MESSAGE_STORE_LEN.false, not_no c.is_sound.ensures (ap not c.if-not-is_sound.true))
 
-pub returns-then-ptt : goal.returns-then-ptt
-unfolding hears_by pick
-returns-then-ptt c =
-    let a = c.args in
-    rw (eq-eqb a.rx RX c.if-rx-ne-RX_STORE_LEN.false, eq-eqb a.out MESSAGE c.if-out-ne-MESSAGE_STORE_LEN.false, not_yes c.is_sound.ensures (ap not c.if-not-is_sound.false), is_yes c.ptt.ensures c.if-ptt.true)
-
 pub returns : goal.returns
 unfolding hears_by pick
 returns c =
     let a = c.args in
-    rw (eq-eqb a.rx RX c.if-rx-ne-RX_STORE_LEN.false, eq-eqb a.out MESSAGE c.if-out-ne-MESSAGE_STORE_LEN.false, not_yes c.is_sound.ensures (ap not c.if-not-is_sound.false), is_no c.ptt.ensures c.if-ptt.false)
+    rw (eq-eqb a.rx RX c.if-rx-ne-RX_STORE_LEN.false, eq-eqb a.out MESSAGE c.if-out-ne-MESSAGE_STORE_LEN.false, not_yes c.is_sound.ensures (ap not c.if-not-is_sound.false), c.ptt.ensures)

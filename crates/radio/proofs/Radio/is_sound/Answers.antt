@@ -1,12 +1,13 @@
 -- `radio::Radio::is_sound` meets its contract. Assumes nothing.
-use Rattle.choice.specs.Pick.{callees}
+use Rattle.std.proofs.Common.{sym, ◌∙◌}
+use Rattle.choice.specs.Pick.{callees, and_no}
 use Rattle.radio.specs.Radio.{sound_radio}
 use Rattle.radio.proofs.Radio.is_sound.Goals as goal
 
-pub returns-then-not-is_sound : goal.returns-then-not-is_sound
+pub returns-then-is_sound : goal.returns-then-is_sound
 unfolding sound_radio
-returns-then-not-is_sound c = search callees
+returns-then-is_sound c = search callees
 
-pub returns : goal.returns
+pub returns-else-is_sound : goal.returns-else-is_sound
 unfolding sound_radio
-returns c = search callees
+returns-else-is_sound c = let n = c.if-is_sound.false in n ∙ and_no _ (sym c.is_sound.ensures ∙ n)
