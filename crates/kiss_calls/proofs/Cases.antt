@@ -9,7 +9,7 @@ use lib.Dec.{eqb}
 use lib.ListN.{length, take, drop, get_or, length-append, length-drop, length-take, take-append-drop}
 use lib.Seq.{take_at, take-take, take_all, drop-append-add, drop-drop}
 use borrow.Author.Tests.{eq-eqb, ne_eqb, le-leb, lt-leb, leb-true, eqb-true}
-use Rattle.choice.specs.Pick.{pick, and, pick_yes, pick_no, and_fst, and_snd}
+use Rattle.choice.specs.Pick.{pick, and, and_fst, and_snd}
 use Rattle.room.specs.Room.{over}
 use Rattle.kiss_layout.specs.Escape.{FEND}
 use Rattle.kiss_calls.specs.declared.KissBuffer.{KissBuffer}
@@ -19,7 +19,7 @@ use Rattle.room.specs.declared.LentError.TheVariants.{WrongStore as NoStore, Out
 use Rattle.kiss_reader.specs.Reader.{Reader, STORE, settle, flush, front, is_some, next, after_next, is_full, refused, kept_back, takes, after_write}
 use Rattle.kiss_calls.specs.Calls.{reader_of, sound_buffer, not_written, writes, written, not_sought, found, next_frame, frame_in}
 use Rattle.kiss_reader.specs.Front.{stands_first, or_empty, length_of}
-use Rattle.kiss_calls.specs.Inside.{compacted, accepted, room_made}
+use Rattle.kiss_calls.specs.Inside.{compacted, accepted}
 use Rattle.kiss_reader.specs.Inside.{settle_at}
 use Rattle.kiss_reader.proofs.Indices.{settle-at, settle-settle}
 use Rattle.kiss_calls.proofs.Inner.{front-part, front_within, settled_within}
@@ -55,6 +55,11 @@ sound_some b store e = by b.taken refl
     by : (t : Bool) → b.taken ≡ t → bool_byte t ≤ b.filled
     by true q = sound_taken b store e q
     by false q = omega arith
+
+-- and what settles behind it stands within what is held
+pub taken_settles : (b : KissBuffer) (store : List ℕ) → length store ≡ STORE → sound_buffer b store ≡ true → b.taken ≡ true → (n : ℕ)
+    → n ≡ settle_at (take (b.filled - 1) (drop 1 store)) → 1 + n ≤ b.filled
+taken_settles b store l e t n p = settled_within 1 b.filled n store (sound_taken b store e t) (omega (arith, sound_filled b store e, l)) p
 
 -- what `is_sound` says of a store that has its length
 pub and_sound : {r : Bool} (b : KissBuffer) (store : List ℕ) → length store ≡ STORE → r ≡ and (eqb (length store) STORE) (sound_buffer b store) → sound_buffer b store ≡ r
@@ -259,14 +264,3 @@ module _ (b : KissBuffer) (offered store : List ℕ) (full : length store ≡ ST
       let y = next_of_full t h in
       let z = full_quiet (reader_of b store) y.0 (ap is_some y.1 ∙ e) in
       kept-written [] z.0 z.1 (omega arith)
-
--- ---- what a write makes of the room
-
-module _ (b : KissBuffer) (offered store : List ℕ) where
-  pub made-full : {n : ℕ} → n ≡ STORE → not_written Full b store ≡ room_made b n offered store
-  unfolding room_made
-  made-full {n} e = pick_yes _ (eq-eqb n STORE e) refl
-
-  pub made_room : {n : ℕ} → (n ≡ STORE → ⊥) → accepted n offered store ≡ room_made b n offered store
-  unfolding room_made
-  made_room {n} f = pick_no _ (ne_eqb n STORE f) refl

@@ -7,7 +7,9 @@ use native.Mathlib.Nat.{sub-zero, zero-sub, suc-sub-suc}
 use native.Mathlib.Omega.{arith}
 use lib.Dec.{ltb}
 use lib.ListN.{length, take, drop, get_or, length-append, length-drop, length-take}
-use lib.Seq.{sets, sets-eq, take-nil, drop-drop}
+use lib.Seq.{take-nil, take-length, drop-drop}
+use borrow.Rule.Slice.PartMut.{put_mid}
+use Rattle.std.proofs.lemmas.Slice.{put_mid-paste}
 use borrow.Author.Tests.{ltb-true, ltb-false}
 use Rattle.room.specs.Room.{over}
 use Rattle.kiss_layout.specs.Escape.{FEND}
@@ -59,11 +61,11 @@ compacted-by from filled n store h k e q =
 
 -- ---- accept
 
--- bytes stored behind the first k of a room
-pub behind-kept : (d xs : List ℕ) (k : ℕ) → k + length xs ≤ length d → sets d k xs ≡ over (take k d ++ xs) d
-behind-kept d xs k h =
-    let n : length (take k d ++ xs) ≡ k + length xs = omega (arith, length-append (take k d) xs, length-take k d) in
-    sets-eq xs d k h ∙ ap (λ (m : ℕ). take k d ++ xs ++ drop m d) (sym n)
+-- m bytes written behind the first k of a room
+pub behind-kept : (d s v : List ℕ) (k m : ℕ) → v ≡ s → length s ≡ m → k + length s ≤ length d → put_mid k m d v ≡ over (take k d ++ s) d
+behind-kept d s v k m e l h =
+    let n : length (take k d ++ s) ≡ k + length s = omega (arith, length-append (take k d) s, length-take k d) in
+    put_mid-paste k m d v s (length s) e l refl ∙ rw (take-length s) (ap (λ (j : ℕ). take k d ++ s ++ drop j d) (sym n))
 
 -- ---- frame
 
