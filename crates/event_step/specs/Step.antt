@@ -41,7 +41,7 @@ bytes_after w (set_data_carrier_detect dcd) room = (0, room)
 bytes_after w (set_now samples) room = (0, room)
 bytes_after w (set_tx_end_time samples) room = (0, room)
 bytes_after w ptt room = (0, room)
-bytes_after w read_tx_frame room = laid_out (gives w).answer (gives w) room
+bytes_after w read_tx_frame room = laid_out (gives w).answer room
 
 -- ---- the number: of 08 that of the frame's kind, else that of the call's answer
 
