@@ -11,7 +11,6 @@ use Rattle.kiss_layout.specs.declared.KissCommand.TheVariants.{DataFrame, TxDela
 use Rattle.std.specs.Prelude.{Option, ℕ, None, Some, Result, Ok, Err}
 use Rattle.kiss_layout.specs.declared.KissCommand.{KissCommand}
 use Rattle.kiss_layout.specs.declared.KissError.{KissError}
-use Rattle.kiss_layout.specs.declared.KissError.TheVariants.{MalformedKissFrame as NoCommand, UnsupportedKissCommand as NoSuch, MalformedKissFrame as NoPort}
 use Rattle.kiss_layout.specs.Read.{port_read, command_read}
 use Rattle.kiss_calls.specs.declared.WriteError.{WriteError}
 use Rattle.kiss_calls.specs.declared.WriteError.TheVariants.{Full, WrongStore as NoRoom, OutOfBounds as NoState}
@@ -125,8 +124,7 @@ module _ {A : Type 0} (L : PacketQueue → StreamQueue → List ℕ → List ℕ
 
         by_command_lem : (c : (Result KissCommand KissError)) (port : ℕ)
             → Adds x (boxed (pick (ltb 2 port) (x.host, x.packets, x.streams) (by_command c port x.host f x.packets x.streams))) (of_data (basic x f) (full x f) (stream x f) (Ok port) c)
-        by_command_lem (Err NoCommand) port = still (ltb 2 port) x _ refl same
-        by_command_lem (Err NoSuch) port = still (ltb 2 port) x _ refl same
+        by_command_lem (Err e) port = still (ltb 2 port) x _ refl same
         by_command_lem (Ok DataFrame) port = by_data (ltb 2 port) (eqb port 0) (eqb port 1) port refl refl
         by_command_lem (Ok TxDelay) port = still (ltb 2 port) _ _ refl (delays (setting_in f))
         by_command_lem (Ok P) port = still (ltb 2 port) x _ refl same
@@ -134,7 +132,7 @@ module _ {A : Type 0} (L : PacketQueue → StreamQueue → List ℕ → List ℕ
 
         by_port_lem : (p : (Result ℕ KissError)) → Adds x (boxed (by_port p x.host f x.packets x.streams)) (of_data (basic x f) (full x f) (stream x f) p (command_read f))
         unfolding obeyed_on
-        by_port_lem (Err NoPort) = same
+        by_port_lem (Err e) = same
         by_port_lem (Ok port) = by_command_lem (command_read f) port
 
         one_frame : Adds x (after_frame x f) (g x f)

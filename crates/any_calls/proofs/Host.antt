@@ -8,7 +8,7 @@ use lib.Dec.{eqb}
 use lib.ListN.{length}
 use borrow.Author.Tests.{eq-eqb, leb-true}
 use Rattle.choice.specs.Pick.{pick, pick_all, and_fst, and_snd, and_both}
-use Rattle.std.specs.Prelude.{Result, Ok, Err}
+use Rattle.std.specs.Prelude.{Result, Err}
 use Rattle.kiss_calls.specs.declared.WriteError.{WriteError}
 use Rattle.kiss_calls.specs.declared.WriteError.TheVariants.{WrongStore, OutOfBounds}
 use Rattle.kiss_reader.specs.Reader.{STORE as READER}

@@ -132,7 +132,7 @@ carrier_fine c b s = rw s (omega arith)
 
 ptt_fine : (t : Tnc) → sound_tnc t ≡ true → ptt_number (ptt_of t) ≤ 6
 unfolding ptt_of pick
-ptt_fine t e = rw e (pick_all (λ (p : (Result Bool LentError)). ptt_number p ≤ 6) t.ptt _ _ (λ u. omega arith) (λ u. omega arith))
+ptt_fine t e = rw e (omega arith)
 
 -- ---- reads for the modulator
 

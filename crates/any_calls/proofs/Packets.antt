@@ -12,10 +12,8 @@ use Rattle.kiss_layout.specs.declared.KissCommand.TheVariants.{DataFrame, TxDela
 use Rattle.std.specs.Prelude.{Result, ℕ, Err, Ok}
 use Rattle.kiss_layout.specs.declared.KissError.{KissError}
 use Rattle.kiss_layout.specs.declared.KissCommand.{KissCommand}
-use Rattle.kiss_layout.specs.declared.KissError.TheVariants.{MalformedKissFrame as NoPort, MalformedKissFrame as NoCommand, UnsupportedKissCommand as NoSuch}
 use Rattle.kiss_layout.specs.Read.{port_read, command_read}
 use Rattle.packets.specs.declared.PacketQueue.{PacketQueue}
-use Rattle.packets.specs.declared.PacketRead.{PacketRead}
 use Rattle.packets.specs.Frames.{Packet, AirFrame, frames_of, joined}
 use Rattle.packets.specs.Queue.{STORE as PACKETS, made_basic, made_full, pushed_basic, pushed_full, read_next, frames_in as frames_of_read}
 use Rattle.packets.specs.Promises.{Sound as PacketsSound}
@@ -134,9 +132,8 @@ frames_in x f = of_data (basic_frames x f) (full_frames x f) (no_frames x f) (po
 
 of_data_lem : (basic full : List Packet) (p : (Result ℕ KissError)) (c : (Result KissCommand KissError)) → joined (of_data basic full [] p c) ≡ of_data (joined basic) (joined full) [] p c
 unfolding joined
-of_data_lem basic full (Err NoPort) c = refl
-of_data_lem basic full (Ok port) (Err NoCommand) = refl
-of_data_lem basic full (Ok port) (Err NoSuch) = refl
+of_data_lem basic full (Err e) c = refl
+of_data_lem basic full (Ok port) (Err e) = refl
 of_data_lem basic full (Ok port) (Ok DataFrame) =
     joined-pick (ltb 2 port) [] (pick (eqb port 0) basic (pick (eqb port 1) full []))
     ∙ ap (λ (fs : List AirFrame). pick (ltb 2 port) [] fs)

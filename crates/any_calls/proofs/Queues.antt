@@ -1,5 +1,5 @@
 -- The promises of specs/QueueRule.antt are kept. Assumes nothing.
-use mathlib.Core.Bool.{true, false, false≢true}
+use mathlib.Core.Bool.{false, false≢true}
 use mathlib.Core.Path.{◌≡◌, refl, sym, ap, ◌∙◌}
 use mathlib.Core.List.{List, [], ◌∷◌, ◌++◌, append-nil}
 use native.Mathlib.Omega.{arith}
@@ -17,7 +17,6 @@ use Rattle.room.specs.declared.LentError.{LentError}
 use Rattle.room.specs.declared.LentError.TheVariants.{WrongStore, OutOfBounds}
 use Rattle.protocol.specs.declared.ModulatorFrame.{ModulatorFrame}
 use Rattle.protocol.specs.declared.ModulatorFrame.TheVariants.{Preamble, Lsf, Stream, Packet, EndOfTransmission}
-use Rattle.packets.specs.Promises.{of_packets}
 use Rattle.packets.proofs.Kept.{gives_packets}
 use Rattle.packets.specs.Frames.{AirFrame, setup, piece, joined}
 use Rattle.packets.specs.Queue.{is_empty, read_next, frames_in}

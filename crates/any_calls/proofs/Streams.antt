@@ -1,7 +1,7 @@
 -- The stream queue over any calls: what flows into it and out of it. Assumes nothing.
 use Prim.{Unit}
 use Prim.Native.Nat.{ℕ}
-use mathlib.Core.Path.{◌≡◌, refl, sym, ap, ◌∙◌, subst}
+use mathlib.Core.Path.{◌≡◌, refl, sym, subst}
 use mathlib.Core.List.{List, [], ◌++◌, append-nil}
 use Rattle.choice.specs.Pick.{and_fst, and_snd}
 use Rattle.channel.specs.declared.Channel.{Channel}

@@ -5,7 +5,6 @@ use Rattle.protocol.specs.declared.StreamFrame.{StreamFrame}
 use Rattle.kiss_layout.specs.declared.KissCommand.TheVariants.{DataFrame, TxDelay, P, FullDuplex}
 use Rattle.kiss_layout.specs.declared.KissError.{KissError}
 use Rattle.kiss_layout.specs.declared.KissCommand.{KissCommand}
-use Rattle.kiss_layout.specs.declared.KissError.TheVariants.{MalformedKissFrame as NoPort, MalformedKissFrame as NoCommand, UnsupportedKissCommand as NoSuch}
 use Rattle.kiss_layout.specs.Read.{port_read, command_read}
 use Rattle.kiss_calls.specs.declared.WriteError.{WriteError}
 use Rattle.kiss_calls.specs.Promises.{after_written}
@@ -26,9 +25,8 @@ use Rattle.any_calls.specs.Calls.{World, Call, write_kiss, read_kiss, handle_lsf
 
 -- of a data frame what belongs to its port: 0, 1 or 2
 abbrev pub of_data : {A : Type 0} → List A → List A → List A → Result ℕ KissError → Result KissCommand KissError → List A
-of_data basic full stream (Err NoPort) c = []
-of_data basic full stream (Ok port) (Err NoCommand) = []
-of_data basic full stream (Ok port) (Err NoSuch) = []
+of_data basic full stream (Err e) c = []
+of_data basic full stream (Ok port) (Err e) = []
 of_data basic full stream (Ok port) (Ok DataFrame) = pick (ltb 2 port) [] (pick (eqb port 0) basic (pick (eqb port 1) full stream))
 of_data basic full stream (Ok port) (Ok TxDelay) = []
 of_data basic full stream (Ok port) (Ok P) = []

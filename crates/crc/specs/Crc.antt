@@ -1,5 +1,5 @@
 -- The CRC of the M17 protocol specification: 16 bits, polynomial 0x5935, start 0xFFFF, high bit first, no final change. Assumes nothing.
-use Rattle.std.specs.Prelude.{ℕ, ◌+◌, ◌*◌, ◌/◌, ◌%◌, List, [], ◌∷◌, ◌++◌}
+use Rattle.std.specs.Prelude.{ℕ, ◌*◌, ◌/◌, ◌%◌, List, [], ◌∷◌, ◌++◌}
 use Rattle.std.specs.Int.Bits.{bit_xor}
 
 abbrev pub polynomial : ℕ

@@ -63,17 +63,16 @@ pub fn m17_crc(input: &[u8]) -> u16
     let table = TABLE;
     let twice = TABLE_TWICE;
     let mut crc: u16 = 0xFFFF;
-    let mut i = 0;
+    let (pairs, odd) = input.as_chunks::<2>();
     // Two bytes fill the register, so both look-ups of a step go by the register before it: neither waits for the other.
-    while 2 <= input.len() - i {
-        let high = (crc / 256) ^ (input[i] as u16);
-        let low = (crc % 256) ^ (input[i + 1] as u16);
-        i += 2;
-        crc = twice[high as usize] ^ table[low as usize];
+    for [first, second] in pairs {
+        let high = (crc / 256) ^ u16::from(*first);
+        let low = (crc % 256) ^ u16::from(*second);
+        crc = twice[usize::from(high)] ^ table[usize::from(low)];
     }
-    if i < input.len() {
-        let top = (crc / 256) ^ (input[i] as u16);
-        crc = (crc << 8) ^ table[top as usize];
+    if let [last] = odd {
+        let top = (crc / 256) ^ u16::from(*last);
+        crc = (crc << 8) ^ table[usize::from(top)];
     }
     crc
 }

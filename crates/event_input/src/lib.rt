@@ -41,10 +41,7 @@ pub fn next_event(src: &[u8], at: usize) -> Next
         return Next::End;
     }
     let kind = src[at];
-    if kind < FIRST_KIND {
-        return Next::Unknown(kind);
-    }
-    if LAST_KIND < kind {
+    if kind < FIRST_KIND || LAST_KIND < kind {
         return Next::Unknown(kind);
     }
     let start = at + 1;

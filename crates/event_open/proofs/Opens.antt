@@ -1,14 +1,13 @@
 -- The tests on the way to a run, and what an open frame is. Assumes nothing.
 use Prim.Native.Nat.{ℕ, zero, suc, ◌-◌, ◌≤◌}
 use mathlib.Core.Bool.{Bool, true, false, not, false≢true}
-use mathlib.Core.Path.{◌≡◌, refl, ap}
+use mathlib.Core.Path.{◌≡◌, refl, ap, ◌∙◌}
 use mathlib.Core.Option.{none, map}
 use mathlib.Core.List.{List, [], ◌∷◌, ◌++◌}
 use native.Mathlib.Omega.{arith}
 use borrow.Author.Tests.{eq-eqb, ne_eqb, eqb-true}
 use lib.Dec.{eqb}
-use lib.ListN.{length, take, drop, get_or}
-use lib.Seq.{length-take-le}
+use lib.ListN.{length}
 use Rattle.choice.specs.Pick.{pick, and_fst, and_snd, and_both, and_no, and_go}
 use Rattle.kiss_layout.specs.Escape.{FEND}
 use Rattle.kiss_layout.specs.Scan.{is_fend, not_fend, after_fends, run_of}
@@ -24,21 +23,18 @@ use Rattle.event_open.specs.Inside.{opened}
 
 -- ---- the code's tests
 
-pub none_held : (h : List ℕ) (n : ℕ) → n ≡ 0 → false ≡ opened (take n h)
+pub none_held : (h : List ℕ) → length h ≡ 0 → false ≡ opened h
 unfolding opened
-none_held h n e = rw e
+none_held [] e = refl
+none_held (b ∷ h) e = absurd (omega arith)
 
-pub not-begun : (h : List ℕ) (n : ℕ) → (get_or h 0 0 ≡ FEND → ⊥) → false ≡ opened (take n h)
+pub other_held : (h r : List ℕ) (b : ℕ) → h ≡ b ∷ r → (b ≡ FEND → ⊥) → eqb b FEND ≡ opened h
 unfolding opened
-not-begun h zero f = refl
-not-begun [] (suc n) f = refl
-not-begun (b ∷ h) (suc n) f = and_no _ (ne_eqb b FEND f)
+other_held h r b e f = let no = ne_eqb b FEND f in rw e (no ∙ and_no _ no)
 
-pub as_scanned : (h : List ℕ) (n : ℕ) → (n ≡ 0 → ⊥) → n ≤ length h → get_or h 0 0 ≡ FEND → (m : ℕ) → m ≡ run_of not_fend (take (n - 1) (drop 1 h)) → eqb m (n - 1) ≡ opened (take n h)
+pub fend_held : (h r : List ℕ) (b m : ℕ) → h ≡ b ∷ r → b ≡ FEND → m ≡ run_of not_fend r → eqb m (length r) ≡ opened h
 unfolding opened
-as_scanned h zero f l e m q = absurd (f refl)
-as_scanned [] (suc n) f l e m q = absurd (omega arith)
-as_scanned (b ∷ h) (suc n) f l e m q = let p : suc n - 1 ≡ n = omega arith in and_go (eq-eqb b FEND e) (rw (q, p, length-take-le n h (omega arith)))
+fend_held h r b m e f q = rw e (and_go (eq-eqb b FEND f) (ap (λ (n : ℕ). eqb n (length r)) q))
 
 -- the bytes that count stand in the store
 pub held_within : (t : Tnc) (p q : ℕ) (reader : List ℕ) → link_fits (length reader) p q ≡ true → sound_tnc t ≡ true → t.buffer.filled ≤ length reader

@@ -14,7 +14,7 @@ use Rattle.std.proofs.lemmas.List.{take_rest, get_or-take, get_or-drop}
 use Rattle.choice.specs.Pick.{pick, pick_all, and, pick_yes, pick_no, and_fst, and_snd}
 use Rattle.kiss_layout.specs.Scan.{not_fend}
 use Rattle.event_input.specs.Events.{HOST}
-use Rattle.std.specs.Prelude.{Result, ℕ}
+use Rattle.std.specs.Prelude.{Result, Ok, ℕ}
 use Rattle.event_line.specs.declared.LineError.{LineError}
 use Rattle.event_line.specs.Line.{line_of, written}
 use Rattle.event_line.proofs.Lines.{line_none_long, written-yes}
@@ -94,10 +94,15 @@ pub kept_room : (k b room place : ℕ) → keeps k b room place ≡ true → (LI
 unfolding keeps
 kept_room k b room place e = let f = and_snd _ _ (and_snd _ _ e) in (leb-true _ _ (and_fst _ _ f), ltb-true _ _ (and_snd _ _ f))
 
--- the line that was put
+-- the line that was put, and its answer
 pub line_put : (on : Bool) (d x : List ℕ) (n : ℕ) {l : (Result ℕ LineError)} → n + 7 ≤ length d → (l, x) ≡ written HOST 0 on [] d n → x ≡ sets d n (line_of HOST 0 on [])
 line_put on d x n h e =
     ap (λ (t : Result ℕ LineError × List ℕ). t.1) (e ∙ sym (written-yes HOST 0 on [] d n (omega arith) (omega (arith, line_none_long HOST 0 on [] refl))))
+
+pub line_ends : (on : Bool) (d x : List ℕ) (n : ℕ) {l : (Result ℕ LineError)} → n + 7 ≤ length d → (l, x) ≡ written HOST 0 on [] d n → l ≡ Ok (n + 7)
+line_ends on d x n h e =
+    ap (λ (t : Result ℕ LineError × List ℕ). t.0) (e ∙ sym (written-yes HOST 0 on [] d n (omega arith) (omega (arith, line_none_long HOST 0 on [] refl))))
+    ∙ ap (λ (m : ℕ). Ok (n + m)) (line_none_long HOST 0 on [] refl)
 
 -- ---- the answer of `take_open`
 

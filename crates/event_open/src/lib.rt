@@ -3,7 +3,7 @@
 
 ghost use Rattle.std.specs.Prelude.{◌≡◌, ◌≤◌, leb, length, drop};
 ghost use Rattle.choice.specs.Pick.{and};
-ghost use Rattle.event_open.specs.Inside.{is_open, begins, kept_run, open_run};
+ghost use Rattle.event_open.specs.Inside.{opened, is_open, begins, kept_run, open_run};
 
 use event_answer::{EventBox, LINE_LEN, Taken};
 use kiss_layout::FEND;
@@ -56,7 +56,7 @@ pub fn take_open(
     }
 }
 
-// The next event is of kind 01, all is as a write asks it, and a frame is open: a FEND, and none behind it.
+// The next event is of kind 01, its line has a place to begin, and a frame is open.
 fn may_run(
     before: EventBox,
     src: &[u8],
@@ -69,17 +69,35 @@ fn may_run(
 ) -> bool
     ensures { result ≡ and (begins src.now at) (and (leb wrote room) (is_open before.tnc before.channel reader.now packets streams)) }
 {
+    if src.len() <= at || src[at] != HOST || room < wrote {
+        return false;
+    }
+    is_open(before, reader, packets, streams)
+}
+
+// All is as a write asks it, and a frame is open.
+fn is_open(before: EventBox, reader: &[u8], packets: usize, streams: usize) -> bool
+    ensures { result ≡ is_open before.tnc before.channel reader.now packets streams }
+{
     let buffer = before.tnc.buffer;
-    at < src.len()
-        && src[at] == HOST
-        && wrote <= room
-        && link_ready::link_fits(reader.len(), packets, streams)
-        && before.tnc.is_sound()
-        && before.channel.is_sound()
-        && !buffer.taken
-        && 0 < buffer.filled
-        && reader[0] == FEND
-        && kiss_fend::to_fend(&reader[1..buffer.filled]) == buffer.filled - 1
+    if !link_ready::link_fits(reader.len(), packets, streams)
+        || !before.tnc.is_sound()
+        || !before.channel.is_sound()
+        || buffer.taken
+    {
+        return false;
+    }
+    opened(&reader[..buffer.filled])
+}
+
+// A FEND, and none behind it.
+fn opened(held: &[u8]) -> bool
+    ensures { result ≡ opened held.now }
+{
+    let Some((first, rest)) = held.split_first() else {
+        return false;
+    };
+    *first == FEND && kiss_fend::to_fend(rest) == rest.len()
 }
 
 fn keep_bytes(

@@ -1,6 +1,7 @@
 -- What the code for each kind of event answers, put together of what its callees said. Assumes nothing.
 use Prim.Native.Nat.{ℕ}
-use Rattle.std.specs.Prelude.{Result, Ok, Err, result_unwrap_or}
+use Rattle.std.specs.Prelude.{Result, Ok, Err}
+use Rattle.std.specs.Result.{result_unwrap_or}
 use Rattle.room.specs.declared.LentError.{LentError}
 use mathlib.Core.Path.{◌≡◌, ap, ◌∙◌}
 use Rattle.channel.specs.declared.ChannelSet.{ChannelSet}

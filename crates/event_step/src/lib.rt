@@ -102,10 +102,8 @@ fn number(bytes: &[u8]) -> u64
     ensures { result ≡ number_of bytes.now }
 {
     let mut n: u64 = 0;
-    let mut i = 0;
-    while i < bytes.len() {
-        n = n % SEVEN_BYTES * 256 + (bytes[i] as u64);
-        i += 1;
+    for byte in bytes {
+        n = n % SEVEN_BYTES * 256 + (*byte as u64);
     }
     n
 }
@@ -120,7 +118,7 @@ fn read_host(before: EventBox, body: &[u8], message: &[u8], bytes: &mut [u8]) ->
     if bytes.len() < MOST_BYTES {
         return refuse(before);
     }
-    let most = usize::from(body[0]);
+    let most = body[0] as usize;
     let read = tnc_read::read_kiss(before.tnc, message, &mut bytes[..most]);
     let count = read.answer.unwrap_or(0);
     answer(number_of(read.answer), count, read.tnc, before.channel)

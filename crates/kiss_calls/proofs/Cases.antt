@@ -1,7 +1,6 @@
 -- What the definitions of the reader's calls come to, case by case, as the code meets the cases. Assumes nothing.
 use mathlib.Core.Path.{◌≡◌, refl, sym, ap, ap₂, ◌∙◌}
 use mathlib.Core.Bool.{Bool, true, false}
-use mathlib.Core.Option.{Option, none, some, map}
 use mathlib.Core.List.{List, [], ◌∷◌, ◌++◌}
 use Prim.Native.Nat.{ℕ, ◌+◌, ◌-◌, ◌≤◌, ◌<◌, min}
 use native.Mathlib.Omega.{arith}
@@ -10,22 +9,20 @@ use lib.Dec.{eqb}
 use lib.ListN.{length, take, drop, get_or, length-append, length-drop, length-take, take-append-drop}
 use lib.Seq.{take_at, take-take, take_all, drop-append-add, drop-drop}
 use borrow.Author.Tests.{eq-eqb, ne_eqb, le-leb, lt-leb, leb-true, eqb-true}
-use Rattle.choice.specs.Pick.{pick, and, pick_yes, pick_no, and_fst, and_snd}
+use Rattle.choice.specs.Pick.{pick, and, and_fst, and_snd}
 use Rattle.room.specs.Room.{over}
 use Rattle.kiss_layout.specs.Escape.{FEND}
-use Rattle.kiss_layout.specs.Scan.{stretch}
 use Rattle.kiss_calls.specs.declared.KissBuffer.{KissBuffer}
 use Rattle.kiss_calls.specs.declared.WriteError.TheVariants.{Full, WrongStore, OutOfBounds}
-use Rattle.std.specs.Prelude.{Err, Ok, None, Some}
+use Rattle.std.specs.Prelude.{Err, Ok}
 use Rattle.room.specs.declared.LentError.TheVariants.{WrongStore as NoStore, OutOfBounds as NoState}
-use Rattle.kiss_reader.specs.Meaning.{enclosed}
 use Rattle.kiss_reader.specs.Reader.{Reader, STORE, settle, flush, front, is_some, next, after_next, is_full, refused, kept_back, takes, after_write}
-use Rattle.kiss_calls.specs.Calls.{reader_of, sound_buffer, not_written, writes, written, next_answer, not_sought, found, next_frame, frame_in}
-use Rattle.kiss_reader.specs.Front.{stands_first, or_empty}
-use Rattle.kiss_calls.specs.Inside.{compacted, accepted, room_made}
+use Rattle.kiss_calls.specs.Calls.{reader_of, sound_buffer, not_written, writes, written, not_sought, found, next_frame, frame_in}
+use Rattle.kiss_reader.specs.Front.{stands_first, or_empty, length_of}
+use Rattle.kiss_calls.specs.Inside.{compacted, accepted}
 use Rattle.kiss_reader.specs.Inside.{settle_at}
 use Rattle.kiss_reader.proofs.Indices.{settle-at, settle-settle}
-use Rattle.kiss_calls.proofs.Inner.{front-part, front_within}
+use Rattle.kiss_calls.proofs.Inner.{front-part, front_within, settled_within}
 
 -- ---- what a sound state says
 
@@ -59,10 +56,27 @@ sound_some b store e = by b.taken refl
     by true q = sound_taken b store e q
     by false q = omega arith
 
+-- and what settles behind it stands within what is held
+pub taken_settles : (b : KissBuffer) (store : List ℕ) → length store ≡ STORE → sound_buffer b store ≡ true → b.taken ≡ true → (n : ℕ)
+    → n ≡ settle_at (take (b.filled - 1) (drop 1 store)) → 1 + n ≤ b.filled
+taken_settles b store l e t n p = settled_within 1 b.filled n store (sound_taken b store e t) (omega (arith, sound_filled b store e, l)) p
+
 -- what `is_sound` says of a store that has its length
 pub and_sound : {r : Bool} (b : KissBuffer) (store : List ℕ) → length store ≡ STORE → r ≡ and (eqb (length store) STORE) (sound_buffer b store) → sound_buffer b store ≡ r
 unfolding and
 and_sound b store l e = sym (e ∙ ap (λ (x : Bool). and x (sound_buffer b store)) (eq-eqb (length store) STORE l))
+
+-- past that test: n bytes are passed over, which a taken frame leaves, and k more until they settle
+module _ {r : Bool} (b : KissBuffer) (store : List ℕ) (full : length store ≡ STORE) (e : r ≡ and (eqb (length store) STORE) (sound_buffer b store)) (t : r ≡ true) where
+  pub filled_within : b.filled ≤ length store
+  filled_within = omega (arith, sound_filled b store (and_sound b store full e ∙ t), full)
+
+  module _ (n : ℕ) (q : n ≡ bool_byte b.taken) where
+    pub passed_within : n ≤ b.filled
+    passed_within = omega (arith, q, sound_some b store (and_sound b store full e ∙ t))
+
+    pub settles_within : (k : ℕ) → k ≡ settle_at (take (b.filled - n) (drop n store)) → n + k ≤ b.filled
+    settles_within k p = settled_within n b.filled k store passed_within filled_within p
 
 -- ---- the tests that every call makes first
 
@@ -134,25 +148,9 @@ settle-flush b store = by b.taken
     by false = refl
 
 module _ (r : Reader) (store held : List ℕ) (e : settle (flush r) ≡ held) where
-  as_found : (o : Option (List ℕ)) → front held ≡ o → (record { answer = next_answer o; buffer = record { filled = length held; taken = is_some o } }, over held store) ≡ found r store
+  pub as_found : (record { answer = Ok (length_of (front held)); buffer = record { filled = length held; taken = is_some (front held) } }, over held store) ≡ found r store
   unfolding found next after_next
-  as_found o q = rw (e, q)
-
-  pub found_none : length (or_empty (front held)) ≡ 0 → (record { answer = Ok None; buffer = record { filled = length held; taken = false } }, over held store) ≡ found r store
-  unfolding front
-  found_none z = by (stretch (drop 1 held)) refl z
-    where
-      by : (o : Option (List ℕ)) → stretch (drop 1 held) ≡ o → length (or_empty (map enclosed o)) ≡ 0
-          → (record { answer = Ok None; buffer = record { filled = length held; taken = false } }, over held store) ≡ found r store
-      by none q z = as_found none (ap (map enclosed) q)
-      by (some s) q z = absurd (omega arith)
-
-  pub found_some : (n : ℕ) → n ≡ length (or_empty (front held)) → (n ≡ 0 → ⊥) → (record { answer = Ok (Some n); buffer = record { filled = length held; taken = true } }, over held store) ≡ found r store
-  found_some n p f = by (front held) refl p
-    where
-      by : (o : Option (List ℕ)) → front held ≡ o → n ≡ length (or_empty o) → (record { answer = Ok (Some n); buffer = record { filled = length held; taken = true } }, over held store) ≡ found r store
-      by none q p = absurd (f p)
-      by (some g) q p = rw p (as_found (some g) q)
+  as_found = rw e
 
 -- ---- write
 
@@ -266,14 +264,3 @@ module _ (b : KissBuffer) (offered store : List ℕ) (full : length store ≡ ST
       let y = next_of_full t h in
       let z = full_quiet (reader_of b store) y.0 (ap is_some y.1 ∙ e) in
       kept-written [] z.0 z.1 (omega arith)
-
--- ---- what a write makes of the room
-
-module _ (b : KissBuffer) (offered store : List ℕ) where
-  pub made-full : {n : ℕ} → n ≡ STORE → not_written Full b store ≡ room_made b n offered store
-  unfolding room_made
-  made-full {n} e = pick_yes _ (eq-eqb n STORE e) refl
-
-  pub made_room : {n : ℕ} → (n ≡ STORE → ⊥) → accepted n offered store ≡ room_made b n offered store
-  unfolding room_made
-  made_room {n} f = pick_no _ (ne_eqb n STORE f) refl

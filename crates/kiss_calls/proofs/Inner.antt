@@ -7,12 +7,11 @@ use native.Mathlib.Nat.{sub-zero, zero-sub, suc-sub-suc}
 use native.Mathlib.Omega.{arith}
 use lib.Dec.{ltb}
 use lib.ListN.{length, take, drop, get_or, length-append, length-drop, length-take}
-use lib.Seq.{sets, sets-eq, take-nil, drop-drop}
+use lib.Seq.{take-nil, take-length, drop-drop}
+use borrow.Rule.Slice.PartMut.{put_mid}
+use Rattle.std.proofs.lemmas.Slice.{put_mid-paste}
 use borrow.Author.Tests.{ltb-true, ltb-false}
-use Rattle.std.specs.Prelude.{Result}
-use Rattle.room.specs.declared.NoRoom.{NoRoom}
-use Rattle.room.specs.Room.{over, shifted}
-use Rattle.room.proofs.Copies.{shifted_in}
+use Rattle.room.specs.Room.{over}
 use Rattle.kiss_layout.specs.Escape.{FEND}
 use Rattle.kiss_layout.specs.Scan.{not_fend, run_of}
 use Rattle.kiss_reader.specs.Reader.{settle, front}
@@ -48,25 +47,25 @@ pub settled_within : (from filled n : ℕ) (store : List ℕ) → from ≤ fille
 settled_within from filled n store h k e =
     omega (arith, settle_within (take (filled - from) (drop from store)), length-take (filled - from) (drop from store), length-drop from store)
 
--- what `shift` leaves of them, and how many they are
-pub compacted-by : (from filled n : ℕ) (store : List ℕ) {r : (Result (Unit {0}) NoRoom)} {d : List ℕ} → from ≤ filled → filled ≤ length store
-    → n ≡ settle_at (take (filled - from) (drop from store)) → (r, d) ≡ shifted store (from + n) filled → (filled - (from + n), d) ≡ compacted from filled store
+-- what is left once they were moved to the store's start, and how many they are
+pub compacted-by : (from filled n : ℕ) (store : List ℕ) {d : List ℕ} → from ≤ filled → filled ≤ length store → n ≡ settle_at (take (filled - from) (drop from store))
+    → d ≡ over (take (filled - (from + n)) (drop (from + n) store)) store → (filled - (from + n), d) ≡ compacted from filled store
 unfolding compacted
 compacted-by from filled n store h k e q =
     let w = settled_within from filled n store h k e in
     let p = settled_part from filled n store h k e in
     let m : filled - (from + n) ≡ length (settle (drop from (take filled store))) =
     omega (arith, ap length p, length-take (filled - (from + n)) (drop (from + n) store), length-drop (from + n) store, w, k) in
-    let o = shifted_in store (from + n) filled q w k ∙ ap (λ (l : List ℕ). over l store) p in
+    let o = q ∙ ap (λ (l : List ℕ). over l store) p in
     λ t. (m t, o t)
 
 -- ---- accept
 
--- bytes stored behind the first k of a room
-pub behind-kept : (d xs : List ℕ) (k : ℕ) → k + length xs ≤ length d → sets d k xs ≡ over (take k d ++ xs) d
-behind-kept d xs k h =
-    let n : length (take k d ++ xs) ≡ k + length xs = omega (arith, length-append (take k d) xs, length-take k d) in
-    sets-eq xs d k h ∙ ap (λ (m : ℕ). take k d ++ xs ++ drop m d) (sym n)
+-- m bytes written behind the first k of a room
+pub behind-kept : (d s v : List ℕ) (k m : ℕ) → v ≡ s → length s ≡ m → k + length s ≤ length d → put_mid k m d v ≡ over (take k d ++ s) d
+behind-kept d s v k m e l h =
+    let n : length (take k d ++ s) ≡ k + length s = omega (arith, length-append (take k d) s, length-take k d) in
+    put_mid-paste k m d v s (length s) e l refl ∙ rw (take-length s) (ap (λ (j : ℕ). take k d ++ s ++ drop j d) (sym n))
 
 -- ---- frame
 

@@ -1,7 +1,7 @@
 -- The reader's calls on its record and its store of 1,713 bytes: answer, record and every byte of the store after each, from document 01's "Answer numbers"
 -- and "Bounds for 8". Assumes nothing.
 use Rattle.std.specs.Prelude.{ℕ, Bool, true, List, [], leb, eqb, length, take, Result, Option, Ok, None, Some, Err}
-use Rattle.std.proofs.Math.Option.{Option as Maybe, none, some}
+use Rattle.std.proofs.Math.Option.{Option as Maybe}
 use Rattle.choice.specs.Pick.{pick, and}
 use Rattle.room.specs.Room.{over}
 use Rattle.kiss_calls.specs.declared.KissBuffer.{KissBuffer}
@@ -12,7 +12,7 @@ use Rattle.room.specs.declared.LentError.{LentError}
 use Rattle.room.specs.declared.LentError.TheVariants.{OutOfBounds as NoState, WrongStore as NoStore}
 use Rattle.kiss_calls.specs.declared.NextFrame.{NextFrame}
 use Rattle.kiss_reader.specs.Reader.{Reader, STORE, front, next, after_next, refused, takes, after_write}
-use Rattle.kiss_reader.specs.Front.{stands_first, or_empty}
+use Rattle.kiss_reader.specs.Front.{stands_first, or_empty, length_of}
 
 -- the reader that a record and a store stand for, and the record of a reader
 abbrev pub reader_of : KissBuffer → List ℕ → Reader
@@ -49,8 +49,7 @@ taken_by (Err error) = 0
 -- ---- next_frame
 
 abbrev pub next_answer : Maybe (List ℕ) → Result (Option ℕ) LentError
-next_answer none = Ok None
-next_answer (some f) = Ok (Some (length f))
+next_answer f = Ok (length_of f)
 
 abbrev pub not_sought : Result (Option ℕ) LentError → KissBuffer → List ℕ → NextFrame × List ℕ
 not_sought answer b store = (record { answer = answer; buffer = b }, store)

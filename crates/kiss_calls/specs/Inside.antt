@@ -1,6 +1,5 @@
 -- What the reader's inner functions leave. From no document: no promise rests on these. Assumes nothing.
-use Rattle.std.specs.Prelude.{ℕ, ◌+◌, ◌-◌, min, false, List, ◌++◌, eqb, length, take, drop, Ok}
-use Rattle.choice.specs.Pick.{pick}
+use Rattle.std.specs.Prelude.{ℕ, ◌+◌, ◌-◌, min, false, List, ◌++◌, length, take, drop, Option, None, Some, Ok}
 use Rattle.room.specs.Room.{over}
 use Rattle.kiss_calls.specs.declared.KissBuffer.{KissBuffer}
 use Rattle.kiss_calls.specs.declared.WriteError.TheVariants.{Full}
@@ -19,6 +18,7 @@ accepted kept offered store = (
   over (take kept store ++ take (min (length offered) (STORE - kept)) offered) store,
 )
 
--- what is left to do of a write once there is room for it: with no room it is refused
-unfoldable pub room_made : KissBuffer → ℕ → List ℕ → List ℕ → Written × List ℕ
-room_made b kept offered store = pick (eqb kept STORE) (not_written Full b store) (accepted kept offered store)
+-- what is left to do of a write once room was made, with so many bytes kept: with no room it is refused
+abbrev pub room_made : KissBuffer → Option ℕ → List ℕ → List ℕ → Written × List ℕ
+room_made b None offered store = not_written Full b store
+room_made b (Some kept) offered store = accepted kept offered store

@@ -11,7 +11,12 @@ use kiss_layout::{BuildError, FEND};
 use kiss_length::escaped_len;
 
 // Writes FEND, the header, first and second escaped, FEND at the start of room. Where they do not fit, room is left as it is.
-pub fn put_frame(header: u8, first: &[u8], second: &[u8], room: &mut [u8]) -> Result<usize, BuildError>
+pub fn put_frame(
+    header: u8,
+    first: &[u8],
+    second: &[u8],
+    room: &mut [u8],
+) -> Result<usize, BuildError>
     ensures { (result, room.new) ≡ put_frame (frame header (first.now ++ second.now)) room.old }
 {
     if frame_fits(first, second, room.len()) {

@@ -28,5 +28,8 @@ pub fn command(frame: &[u8]) -> Result<KissCommand, KissError>
 fn header(frame: &[u8]) -> Result<u8, KissError>
     ensures { result ≡ ok_or (slice_get (after_fends frame.now) 0) MalformedKissFrame }
 {
-    frame.get(leading_fends(frame)).copied().ok_or(KissError::MalformedKissFrame)
+    frame
+        .get(leading_fends(frame))
+        .copied()
+        .ok_or(KissError::MalformedKissFrame)
 }

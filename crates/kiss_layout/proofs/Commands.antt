@@ -17,7 +17,7 @@ command_small TxDelay = omega arith
 command_small P = omega arith
 command_small FullDuplex = omega arith
 
-pub unsupported : (n : ℕ) → n ≢ 0 → n ≢ 1 → n ≢ 2 → n ≢ 5 → (Err UnsupportedKissCommand) ≡ command_for n
+pub unsupported : (n : ℕ) → n ≢ 0 → n ≢ 1 → n ≢ 2 → n ≢ 5 → Err UnsupportedKissCommand ≡ command_for n
 unfolding command_for pick
 unsupported n a b c d = rw (ne_eqb n 0 a, ne_eqb n 1 b, ne_eqb n 2 c, ne_eqb n 5 d)
 

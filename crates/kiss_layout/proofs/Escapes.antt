@@ -81,9 +81,9 @@ unfolding escaped pick
 escaped-yes s d h = rw (le-leb (length (esc s)) (length d) h)
 
 -- what `escape` left in a room that had the place
-pub escaped_in : (s d : List ℕ) {r : (Result ℕ NoRoom)} {e : List ℕ} → (r, e) ≡ escaped s d → length (esc s) ≤ length d → e ≡ over (esc s) d
+pub escaped_in : (s d : List ℕ) {r : Result ℕ NoRoom} {e : List ℕ} → (r, e) ≡ escaped s d → length (esc s) ≤ length d → e ≡ over (esc s) d
 escaped_in s d h fit = ap (λ (p : Result ℕ NoRoom × List ℕ). p.1) (h ∙ escaped-yes s d fit)
 
-pub escaped_no : (s d : List ℕ) → length d < length (esc s) → escaped s d ≡ ((Err no_room), d)
+pub escaped_no : (s d : List ℕ) → length d < length (esc s) → escaped s d ≡ (Err no_room, d)
 unfolding escaped pick
 escaped_no s d h = rw (lt-leb (length (esc s)) (length d) h)

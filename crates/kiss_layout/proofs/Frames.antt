@@ -30,7 +30,7 @@ pub put_yes : (f d : List ℕ) → length f ≤ length d → put_frame f d ≡ (
 unfolding put_frame pick
 put_yes f d h = rw (le-leb (length f) (length d) h)
 
-pub put_no : (f d : List ℕ) → length d < length f → put_frame f d ≡ ((Err NoRoom), d)
+pub put_no : (f d : List ℕ) → length d < length f → put_frame f d ≡ (Err NoRoom, d)
 unfolding put_frame pick
 put_no f d h = rw (lt-leb (length f) (length d) h)
 

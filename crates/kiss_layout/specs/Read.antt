@@ -41,11 +41,11 @@ command_read f = command_at (after_fends f)
 
 -- the content is what stands between the header and the next FEND, found before anything is unescaped
 abbrev pub content_in : Option (List ℕ) → List ℕ → Result ℕ KissError × List ℕ
-content_in none d = ((Err MalformedKissFrame), d)
+content_in none d = (Err MalformedKissFrame, d)
 content_in (some content) d = (Ok (unescaped content d).0, (unescaped content d).1)
 
 abbrev pub payload_at : List ℕ → List ℕ → Result ℕ KissError × List ℕ
-payload_at [] d = ((Err MalformedKissFrame), d)
+payload_at [] d = (Err MalformedKissFrame, d)
 payload_at (header ∷ s) d = content_in (stretch s) d
 
 -- the answer of `decode_payload`, and the room after it

@@ -15,7 +15,7 @@ use Rattle.kiss_layout.proofs.Scans.{no_header, header, stretch-found, stretch-n
 
 -- ---- a payload, found by the number of FENDs at the front and the number n of bytes behind the header up to the next FEND
 
-pub decoded_headless : (f d : List ℕ) {at : ℕ} → at ≡ run_of is_fend f → length f ≤ at → ((Err MalformedKissFrame), d) ≡ decoded f d
+pub decoded_headless : (f d : List ℕ) {at : ℕ} → at ≡ run_of is_fend f → length f ≤ at → (Err MalformedKissFrame, d) ≡ decoded f d
 unfolding decoded
 decoded_headless f d e h = sym (ap (λ (l : List ℕ). payload_at l d) (no_header f e h))
 
@@ -27,7 +27,7 @@ module _ (f d behind : List ℕ) {at n : ℕ} (e : at ≡ run_of is_fend f) (h :
   unfolding decoded
   by-stretch s = sym (ap (λ (l : List ℕ). payload_at l d) (header f e (omega arith)) ∙ ap (λ (l : List ℕ). content_in (stretch l) d) (sym rest) ∙ ap (λ (o : Option (List ℕ)). content_in o d) s)
 
-  pub decoded_open : length behind ≤ n → ((Err MalformedKissFrame), d) ≡ decoded f d
+  pub decoded_open : length behind ≤ n → (Err MalformedKissFrame, d) ≡ decoded f d
   decoded_open k = by-stretch (stretch-none behind (rw q at k))
 
   pub decoded_content : n < length behind → (c : ℕ) (r : List ℕ) → (c, r) ≡ unescaped (take n behind) d → (Ok c, r) ≡ decoded f d

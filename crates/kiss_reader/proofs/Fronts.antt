@@ -1,39 +1,36 @@
 -- What the reader's scans find. Assumes nothing.
-use mathlib.Core.Path.{◌≡◌, refl, ◌∙◌, ap}
-use mathlib.Core.Bool.{Bool, true, false, not}
-use mathlib.Core.Option.{Option, none, some, map}
+use mathlib.Core.Path.{◌≡◌, refl, sym, ◌∙◌, ap}
+use mathlib.Core.Bool.{Bool, true, false}
+use mathlib.Core.Option.{Option, none, some}
 use mathlib.Core.List.{List, [], ◌∷◌}
 use Prim.Native.Nat.{ℕ, zero, suc, ◌+◌, ◌-◌, ◌≤◌, ◌<◌}
 use native.Mathlib.Nat.{le_of_suc-le-suc, not-suc-le-zero}
 use native.Mathlib.Omega.{arith}
-use lib.Dec.{ltb, eqb}
+use lib.Dec.{ltb}
 use lib.ListN.{length, take, drop, get_or, length-append, length-drop, length-take}
 use lib.Seq.{take_all}
-use borrow.Author.Tests.{eq-eqb, ne_eqb}
+use borrow.Author.Tests.{eq-eqb, ne_eqb, ltb-true, ltb-false}
+use Rattle.std.specs.Prelude.{None, Some}
+use Rattle.std.specs.Bool.{then_some}
+use Rattle.std.specs.Option.{is_some as has, unwrap_or}
 use Rattle.choice.specs.Pick.{and}
 use Rattle.kiss_layout.specs.Escape.{FEND}
-use Rattle.kiss_layout.specs.Scan.{is_fend, not_fend, stretch, run_of}
-use Rattle.kiss_layout.proofs.Scans.{run_within, stretch-found}
+use Rattle.kiss_layout.specs.Scan.{not_fend, run_of}
+use Rattle.kiss_layout.proofs.Scans.{stretch-found}
 use Rattle.kiss_reader.specs.Meaning.{enclosed}
 use Rattle.kiss_reader.specs.Reader.{front, is_some}
-use Rattle.kiss_reader.specs.Inside.{settle_at}
 use Rattle.kiss_reader.proofs.Indices.{front-none, stretch_tested}
-use Rattle.kiss_reader.specs.Front.{stands_first, or_empty}
+use Rattle.kiss_reader.specs.Front.{stands_first, or_empty, length_of}
 
 -- a part that goes on to the end
 pub to_the_end : (i : ℕ) (h : List ℕ) → take (length h - i) (drop i h) ≡ drop i h
 to_the_end i h = take_all (length h - i) (drop i h) (simp length-drop (omega arith))
 
--- ---- settle_at
-
-module _ (h : List ℕ) (i run : ℕ) (e : i ≡ run_of not_fend h) (f : run ≡ run_of is_fend (take (length h - i) (drop i h))) where
-  pub settle_sum : i + (run - 1) ≡ settle_at h
-  settle_sum = ap (λ (n : ℕ). i + (n - 1)) (f ∙ ap (run_of is_fend) (to_the_end i h)) ∙ ap (λ (n : ℕ). n + (run_of is_fend (drop n h) - 1)) e
-
-  pub settle_short : i + run ≤ length h
-  settle_short = omega (arith, run_within not_fend h, run_within is_fend (take (length h - i) (drop i h)), length-take (length h - i) (drop i h), length-drop i h)
-
 -- ---- front_len
+
+front-is : (h : List ℕ) → run_of not_fend (drop 1 h) < length (drop 1 h) → front h ≡ some (enclosed (take (run_of not_fend (drop 1 h)) (drop 1 h)))
+unfolding front
+front-is h l = rw (stretch-found (drop 1 h) l)
 
 pub front_length_found : (h : List ℕ) → run_of not_fend (drop 1 h) < length (drop 1 h) → length (or_empty (front h)) ≡ run_of not_fend (drop 1 h) + 2
 unfolding front
@@ -44,15 +41,28 @@ front_length_found h l =
 pub front_length_none : (h : List ℕ) → length (drop 1 h) ≤ run_of not_fend (drop 1 h) → length (or_empty (front h)) ≡ 0
 front_length_none h l = rw (front-none h l)
 
+pub front_missing : (h : List ℕ) → length h < 1 → None ≡ length_of (front h)
+front_missing h l = rw (front-none h (omega (arith, l, length-drop 1 h)))
+
+-- what the scan of the bytes behind the first says of the front
+pub front_measured : (h s : List ℕ) (n : ℕ) → s ≡ drop 1 h → n ≡ run_of not_fend s → then_some (ltb n (length s)) (n + 2) ≡ length_of (front h)
+front_measured h s n e f = rw (f, e) (by (ltb (run_of not_fend (drop 1 h)) (length (drop 1 h))) refl)
+  where
+    by : (t : Bool) → ltb (run_of not_fend (drop 1 h)) (length (drop 1 h)) ≡ t → then_some t (run_of not_fend (drop 1 h) + 2) ≡ length_of (front h)
+    by true q =
+        let l = ltb-true (run_of not_fend (drop 1 h)) (length (drop 1 h)) q in
+        rw (front-is h l) (ap Some (sym (ap (λ (o : Option (List ℕ)). length (or_empty o)) (sym (front-is h l)) ∙ front_length_found h l)))
+    by false q = rw (front-none h (ltb-false (run_of not_fend (drop 1 h)) (length (drop 1 h)) q))
+
 -- ---- holds_frame
 
-pub front-some : (h : List ℕ) → not (eqb (length (or_empty (front h))) 0) ≡ is_some (front h)
-unfolding front
-front-some h = by (stretch (drop 1 h))
-  where
-    by : (o : Option (List ℕ)) → not (eqb (length (or_empty (map enclosed o))) 0) ≡ is_some (map enclosed o)
-    by none = refl
-    by (some s) = rw (ne_eqb (length (enclosed s)) 0 (λ e. omega arith))
+pub length-some : (o : Option (List ℕ)) → has (length_of o) ≡ is_some o
+length-some none = refl
+length-some (some f) = refl
+
+pub length-or_empty : (o : Option (List ℕ)) → unwrap_or (length_of o) 0 ≡ length (or_empty o)
+length-or_empty none = refl
+length-or_empty (some f) = refl
 
 -- ---- stands_first
 
@@ -80,6 +90,10 @@ pub stands_empty : (h : List ℕ) → 2 ≤ length h → get_or h 1 0 ≡ FEND �
 unfolding stands_first
 stands_empty h l e = rw (get_d_any h 1 FEND 0 (omega arith), eq-eqb (get_or h 1 0) FEND e) (no_second _ _)
 
-pub stands_closed : (h : List ℕ) → 2 ≤ length h → get_or h 0 0 ≡ FEND → (get_or h 1 0 ≡ FEND → ⊥) → stands_first h ≡ ltb (run_of not_fend (drop 2 h)) (length (drop 2 h))
+stands_further : (h : List ℕ) → 2 ≤ length h → get_or h 0 0 ≡ FEND → (get_or h 1 0 ≡ FEND → ⊥) → stands_first h ≡ ltb (run_of not_fend (drop 2 h)) (length (drop 2 h))
 unfolding stands_first and
-stands_closed h l e f = rw (eq-eqb (get_or h 0 0) FEND e, get_d_any h 1 FEND 0 (omega arith), ne_eqb (get_or h 1 0) FEND f) (stretch_tested (drop 2 h))
+stands_further h l e f = rw (eq-eqb (get_or h 0 0) FEND e, get_d_any h 1 FEND 0 (omega arith), ne_eqb (get_or h 1 0) FEND f) (stretch_tested (drop 2 h))
+
+pub stands_closed : (h : List ℕ) (n : ℕ) → 2 ≤ length h → get_or h 0 0 ≡ FEND → (get_or h 1 0 ≡ FEND → ⊥) → n ≡ run_of not_fend (take (length h - 2) (drop 2 h))
+    → ltb n (length (take (length h - 2) (drop 2 h))) ≡ stands_first h
+stands_closed h n l e f q = rw (q, to_the_end 2 h) (sym (stands_further h l e f))

@@ -27,7 +27,12 @@ pub fn set_full_duplex(port: u8, full_duplex: bool, room: &mut [u8]) -> Result<u
 }
 
 // A frame of one byte for any of the 16 ports. The byte may be FEND or FESC, so it is escaped as any content is.
-fn put_setting(port: u8, command: KissCommand, value: u8, room: &mut [u8]) -> Result<usize, BuildError>
+fn put_setting(
+    port: u8,
+    command: KissCommand,
+    value: u8,
+    room: &mut [u8],
+) -> Result<usize, BuildError>
     ensures { (result, room.new) ≡ setting port command value room.old }
 {
     if 15 < port {

@@ -1,14 +1,14 @@
 -- What the bounds of a queue say, and that the changes keep them. Assumes nothing.
 use Prim.Native.Nat.{ℕ, zero, suc, ◌+◌, ◌%◌, ◌≤◌, ◌<◌}
 use mathlib.Core.Path.{◌≡◌, refl, sym, ◌∙◌}
-use mathlib.Core.Bool.{Bool, true, false}
+use mathlib.Core.Bool.{Bool, true, false, ◌&&◌}
 use mathlib.Core.List.{List, [], ◌∷◌}
 use native.Mathlib.Numerals.{add-one}
 use native.Mathlib.Omega.{arith}
 use borrow.Author.Tests.{ltb-true, leb-true, lt-ltb, le-leb, lt-leb}
 use lib.Dec.{leb, eqb}
 use lib.ListN.{length, get_or, set, drop, drop_of_length-le}
-use lib.Seq.{drop-cons}
+use Rattle.std.specs.List.{list_all}
 use Rattle.choice.specs.Pick.{pick, and, and_fst, and_snd, and_both, and_no, and_go}
 use Rattle.choice.specs.Cases.{all_pass}
 use Rattle.packets.specs.declared.Place.{Place}
@@ -21,28 +21,16 @@ pub sound_place_lem : (p : Place) → p.sent ≤ p.len → p.len ≤ DATA → so
 unfolding sound_place
 sound_place_lem p h k = and_both (le-leb p.sent p.len h) (le-leb p.len DATA k)
 
-pub sent_beyond : (p : Place) → p.len < p.sent → sound_place p ≡ false
-unfolding sound_place
-sent_beyond p h = sym (and_no (leb p.len DATA) (lt-leb p.sent p.len h))
+-- the tests as the code asks them
+pub and_is : (a b : Bool) → (a && b) ≡ and a b
+unfolding and
+and_is true b = refl
+and_is false b = refl
 
-pub len_beyond : (p : Place) → p.sent ≤ p.len → DATA < p.len → sound_place p ≡ false
-unfolding sound_place
-len_beyond p h k = sym (and_go (le-leb p.sent p.len h) (sym (lt-leb p.len DATA k)))
-
--- the places from i on, one by one
-places_step : (ps : List Place) (i : ℕ) → i < length ps → all_pass sound_place (drop i ps) ≡ and (sound_place (get_or ps i no_packet)) (all_pass sound_place (drop (i + 1) ps))
-unfolding all_pass
-places_step ps i h = rw (add-one, drop-cons ps i no_packet)
-
-pub places_no : (ps : List Place) (i : ℕ) → i < length ps → sound_place (get_or ps i no_packet) ≡ false → all_pass sound_place (drop i ps) ≡ false
-places_no ps i h e = places_step ps i h ∙ sym (and_no _ e)
-
-pub places_go : (ps : List Place) (i : ℕ) → i < length ps → sound_place (get_or ps i no_packet) ≡ true → all_pass sound_place (drop (i + 1) ps) ≡ all_pass sound_place (drop i ps)
-places_go ps i h e = and_go e refl ∙ sym (places_step ps i h)
-
-pub places_end : (ps : List Place) (i : ℕ) → length ps ≤ i → all_pass sound_place (drop i ps) ≡ true
-unfolding all_pass
-places_end ps i h = rw (drop_of_length-le ps h)
+pub places_all : (ps : List Place) → list_all (λ (p : Place). leb p.sent p.len && leb p.len DATA) ps ≡ all_pass sound_place ps
+unfolding all_pass sound_place
+places_all [] = refl
+places_all (p ∷ ps) = and_is _ _ ∙ (λ t. and (and_is (leb p.sent p.len) (leb p.len DATA) t) (places_all ps t))
 
 pub place_at : (ps : List Place) (i : ℕ) → all_pass sound_place ps ≡ true → sound_place (get_or ps i no_packet) ≡ true
 unfolding all_pass

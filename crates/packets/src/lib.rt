@@ -63,36 +63,15 @@ impl PacketQueue {
     pub fn is_sound(self) -> bool
         ensures { result ≡ sound_queue self }
     {
-        let mut i = 0;
-        while i < 4 {
-            let place = self.places[i];
-            if place.len < place.sent {
-                return false;
-            }
-            if MAX_DATA_LEN < place.len {
-                return false;
-            }
-            i += 1;
-        }
-        if 4 <= self.next {
-            return false;
-        }
-        if 4 <= self.curr {
-            return false;
-        }
-        if self.full {
-            return self.next == self.curr;
-        }
-        true
+        let places = self.places;
+        places.iter().all(|place| (place.sent <= place.len) & (place.len <= MAX_DATA_LEN))
+            & ring::is_sound::<4>(self.next, self.curr, self.full)
     }
 
     // No packet waits.
     pub fn is_empty(self) -> bool
         ensures { result ≡ is_empty self }
     {
-        if self.full {
-            return false;
-        }
-        self.next == self.curr
+        ring::is_empty(self.next, self.curr, self.full)
     }
 }

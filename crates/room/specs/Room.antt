@@ -23,11 +23,11 @@ placed xs d at = take at d ++ xs ++ drop (at + length xs) d
 
 -- the answer of `copy_in`, and the room after it
 unfoldable pub copied : List ℕ → List ℕ → ℕ → Result (Unit {0}) NoRoom × List ℕ
-copied xs d at = pick (leb (at + length xs) (length d)) ((Ok tt), placed xs d at) ((Err no_room), d)
+copied xs d at = pick (leb (at + length xs) (length d)) (Ok tt, placed xs d at) (Err no_room, d)
 
 -- the answer of `shift`, and the room after it: the bytes of d from place `from` up to place `to` stand over its start
 unfoldable pub shifted : List ℕ → ℕ → ℕ → Result (Unit {0}) NoRoom × List ℕ
-shifted d from to = pick (and (leb from to) (leb to (length d))) ((Ok tt), over (take (to - from) (drop from d)) d) ((Err no_room), d)
+shifted d from to = pick (and (leb from to) (leb to (length d))) (Ok tt, over (take (to - from) (drop from d)) d) (Err no_room, d)
 
 -- document 01's numbers of what is refused
 abbrev pub no_room_number : ℕ

@@ -56,25 +56,13 @@ impl StreamQueue {
     pub fn is_sound(self) -> bool
         ensures { result ≡ sound_queue self }
     {
-        if PLACES <= self.next {
-            return false;
-        }
-        if PLACES <= self.curr {
-            return false;
-        }
-        if self.full {
-            return self.next == self.curr;
-        }
-        true
+        ring::is_sound::<PLACES>(self.next, self.curr, self.full)
     }
 
     // No frame waits.
     pub fn is_empty(self) -> bool
         ensures { result ≡ empty_queue self }
     {
-        if self.full {
-            return false;
-        }
-        self.next == self.curr
+        ring::is_empty(self.next, self.curr, self.full)
     }
 }

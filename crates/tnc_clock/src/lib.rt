@@ -1,11 +1,11 @@
 // The calls that tell the TNC the time, with the names of m17core's SoftTnc.
-#![tactic(auto)]
+#![tactic(auto, unfolding(crate::specs::Clock::now_set, crate::specs::Clock::end_time_set, choice::specs::Pick::pick))]
 
 ghost use Rattle.std.specs.Prelude.{◌≡◌};
 ghost use Rattle.tnc_clock.specs.Clock.{in_state, now_set, end_time_set};
 ghost use Rattle.state.specs.State.{time_reached, ending_at};
 
-use channel::{Channel, ChannelError};
+use channel::{Channel, ChannelError, ChannelSet};
 use radio::Radio;
 use state::State;
 use tnc_core::Tnc;
@@ -26,55 +26,45 @@ pub fn set_now(tnc: Tnc, channel: Channel, now_samples: u64) -> Timed
     if !tnc.is_sound() {
         return Timed {
             answer: Err(ChannelError::OutOfBounds),
-            tnc: tnc,
-            channel: channel,
+            tnc,
+            channel,
         };
     }
-    let set = channel.set_now(now_samples);
-    let answer = set.answer;
-    let after = set.channel;
-    match answer {
-        Ok(()) => {
-            let reached = tnc.with_radio(at_time(tnc.radio, now_samples));
-            return Timed {
-                answer: Ok(()),
-                tnc: reached,
-                channel: after,
-            };
-        }
-        _ => {
-            return Timed {
-                answer: answer,
-                tnc: tnc,
-                channel: after,
-            };
-        }
+    let ChannelSet { answer, channel } = channel.set_now(now_samples);
+    let tnc = match answer {
+        Ok(()) => tnc.with_radio(at_time(tnc.radio, now_samples)),
+        Err(_) => tnc,
+    };
+    Timed {
+        answer,
+        tnc,
+        channel,
     }
 }
 
 // The modulator has said in how many samples it will be done. It counts only in the ending state.
+#[tactic(auto, using(channel::proofs::Bounds::clock_bound), unfolding(crate::specs::Clock::end_time_set, choice::specs::Pick::pick))]
 pub fn set_tx_end_time(tnc: Tnc, channel: Channel, in_samples: u64) -> Timed
     ensures { result ≡ end_time_set tnc channel in_samples }
 {
-    if !(tnc.is_sound() & channel.is_sound()) {
+    if !(tnc.is_sound() && channel.is_sound()) {
         return Timed {
             answer: Err(ChannelError::OutOfBounds),
-            tnc: tnc,
-            channel: channel,
+            tnc,
+            channel,
         };
     }
-    if FARTHEST < in_samples {
+    if in_samples > FARTHEST {
         return Timed {
             answer: Err(ChannelError::OutOfRange),
-            tnc: tnc,
-            channel: channel,
+            tnc,
+            channel,
         };
     }
-    let ending = tnc.with_radio(ending_at(tnc.radio, channel.clock + in_samples));
     Timed {
         answer: Ok(()),
-        tnc: ending,
-        channel: channel,
+        tnc: tnc.with_radio(ending_at(tnc.radio, channel.clock + in_samples)),
+        channel,
     }
 }
 
@@ -82,19 +72,12 @@ pub fn set_tx_end_time(tnc: Tnc, channel: Channel, in_samples: u64) -> Timed
 fn at_time(radio: Radio, now_samples: u64) -> Radio
     ensures { result ≡ in_state radio (time_reached radio.state now_samples) }
 {
-    let state = radio.state;
-    match state {
-        State::TxEndingAtTime(end) => {
-            if end <= now_samples {
-                let outgoing = radio.outgoing;
-                return Radio {
-                    state: State::Idle,
-                    outgoing: outgoing,
-                };
-            }
-            return radio;
-        }
-        _ => return radio,
+    match radio.state {
+        State::TxEndingAtTime(end) if end <= now_samples => Radio {
+            state: State::Idle,
+            ..radio
+        },
+        _ => radio,
     }
 }
 
@@ -102,16 +85,11 @@ fn at_time(radio: Radio, now_samples: u64) -> Radio
 fn ending_at(radio: Radio, end: u64) -> Radio
     ensures { result ≡ in_state radio (ending_at radio.state end) }
 {
-    let state = radio.state;
-    let outgoing = radio.outgoing;
-    match state {
-        State::TxEnding => return Radio {
+    match radio.state {
+        State::TxEnding => Radio {
             state: State::TxEndingAtTime(end),
-            outgoing: outgoing,
+            ..radio
         },
-        _ => return Radio {
-            state: state,
-            outgoing: outgoing,
-        },
+        _ => radio,
     }
 }

@@ -1,7 +1,7 @@
 -- A sound TNC, part by part. Assumes nothing.
 use Prim.Native.Nat.{◌≤◌}
-use mathlib.Core.Bool.{Bool, beq, true, false, not, false≢true}
-use mathlib.Core.Path.{◌≡◌, refl, sym, ap}
+use mathlib.Core.Bool.{Bool, true, false, not, false≢true}
+use mathlib.Core.Path.{◌≡◌, refl, sym}
 use borrow.Author.Tests.{le-leb, leb-true}
 use Rattle.choice.specs.Pick.{pick, and_fst, and_snd, and_both}
 use Rattle.kiss_reader.specs.Reader.{STORE as READER}
@@ -29,14 +29,6 @@ unfolding pick
 as_on true b e = e
 as_on false true e = absurd (false≢true (sym e))
 as_on false false e = refl
-
--- the same test as one comparison
-pub same_flags : {a r : Bool} (b : Bool) → r ≡ a → beq b r ≡ pick a b (not b)
-unfolding pick
-same_flags {a = true} true e = ap (beq true) e
-same_flags {a = true} false e = ap (beq false) e
-same_flags {a = false} true e = ap (beq true) e
-same_flags {a = false} false e = ap (beq false) e
 
 pub parts : (t : Tnc) → sound_tnc t ≡ true → Parts t
 unfolding sound_tnc

@@ -1,5 +1,4 @@
 -- The promises of specs/Promises.antt are kept. Assumes nothing.
-use mathlib.Core.Bool.{Bool}
 use mathlib.Core.Path.{refl, ap}
 use lib.ListN.{replicate}
 use Rattle.choice.specs.Pick.{pick, and, and_both}
@@ -10,8 +9,7 @@ use Rattle.packets.proofs.Kept as packets
 use Rattle.streams.proofs.Kept as streams
 use Rattle.streams.specs.Queue.{STORE as STREAMS, empty_queue as no_stream}
 use Rattle.radio.specs.Radio.{sound_radio}
-use Rattle.std.specs.Prelude.{Ok, false, true, Result, Bool}
-use Rattle.room.specs.declared.LentError.{LentError}
+use Rattle.std.specs.Prelude.{Ok}
 use Rattle.tnc_core.specs.Tnc.{sound_tnc, ptt_of, with_radio}
 use Rattle.tnc_core.specs.Promises.{NewIsSound, NewIsEmpty, WithRadioIsSound, PttIsTheState}
 use Rattle.tnc_core.proofs.Bounds.{parts, joined}

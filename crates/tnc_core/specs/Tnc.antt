@@ -1,5 +1,5 @@
 -- The TNC's record with its bounds, from document 01's "Bounds for 8" and m17core's tnc.rs. Assumes nothing.
-use Rattle.std.specs.Prelude.{ℕ, Bool, false, not, leb, Result, Ok, true, Err}
+use Rattle.std.specs.Prelude.{ℕ, Bool, false, not, leb, Result, Ok, Err}
 use Rattle.choice.specs.Pick.{pick, and}
 use Rattle.kiss_reader.specs.Reader.{STORE as READER, new_reader}
 use Rattle.kiss_calls.specs.Calls.{buffer_of}

@@ -1,12 +1,12 @@
 // The TNC's record, as m17core's SoftTnc but for its large bytes and its channel, which stand in stores and a record of the caller's; and its bounds.
-#![tactic(auto)]
+#![tactic(auto, unfolding(crate::specs::Tnc::sound_tnc, crate::specs::Tnc::ptt_of, choice::specs::Pick::and, choice::specs::Pick::pick))]
 
 ghost use Rattle.std.specs.Prelude.{◌≡◌};
 ghost use Rattle.tnc_core.specs.Tnc.{sound_tnc, ptt_of, with_radio};
 
-use room::LentError;
 use kiss_calls::{KissBuffer, MAX_FRAME_LEN};
 use radio::Radio;
+use room::LentError;
 use sending::Sending;
 
 #[derive(Clone, Copy)]
@@ -24,12 +24,10 @@ impl Tnc {
     pub fn is_sound(self) -> bool
         ensures { result ≡ sound_tnc self }
     {
-        let radio = self.radio;
-        let state = radio.state;
-        (self.buffer.filled <= MAX_FRAME_LEN)
-            & self.sending.is_sound()
-            & radio.is_sound()
-            & (self.ptt == state.ptt())
+        self.buffer.filled <= MAX_FRAME_LEN
+            && self.sending.is_sound()
+            && self.radio.is_sound()
+            && self.ptt == self.radio.state.ptt()
     }
 
     // Should PTT be on right now?
@@ -39,19 +37,17 @@ impl Tnc {
         if !self.is_sound() {
             return Err(LentError::OutOfBounds);
         }
-        if self.ptt {
-            return Ok(true);
-        }
-        Ok(false)
+        Ok(self.ptt)
     }
 
     // The same with another radio: PTT is on exactly in its transmit states.
-    pub fn with_radio(mut self, radio: Radio) -> Self
+    pub fn with_radio(self, radio: Radio) -> Self
         ensures { result ≡ with_radio self radio }
     {
-        let state = radio.state;
-        self.radio = radio;
-        self.ptt = state.ptt();
-        self
+        Tnc {
+            radio,
+            ptt: radio.state.ptt(),
+            ..self
+        }
     }
 }

@@ -4,7 +4,9 @@ use mathlib.Core.Bool.{Bool, true, false, false≢true}
 use mathlib.Core.Logic.{◌≢◌}
 use mathlib.Core.Path.{◌≡◌, refl, sym, ap, ◌∙◌}
 use native.Mathlib.Omega.{arith}
-use Rattle.choice.specs.Pick.{pick, pick_all, and_both}
+use borrow.Author.Tests.{eq-eqb}
+use lib.ListN.{length}
+use Rattle.choice.specs.Pick.{pick, and, pick_all, and_both}
 use Rattle.channel.specs.declared.Channel.{Channel}
 use Rattle.std.specs.Prelude.{Result, Ok, Err, Option, Some, None}
 use Rattle.channel.specs.declared.Access.TheVariants.{Sends, Waits}
@@ -35,9 +37,8 @@ use Rattle.tx_frame.specs.declared.TxRead.{TxRead}
 use Rattle.tx_begin.specs.Begin.{keyed_up}
 use Rattle.tx_stream.specs.Stream.{after_stream, with_streams, stream_given}
 use Rattle.tx_packet.specs.Packet.{after_packet, with_packets}
-use Rattle.tnc_modulator.specs.Modulator.{all_sound, given, tx_number, kind_number}
-use Rattle.tnc_modulator.specs.Promises.{Box, read_of, afterwards, after_read, RefusedKeepsAll, Sound, SoundIsAnswered, SoundStaysSound, PttFollows, PreambleHasTheDelay, CarrierHoldsBack, KeysUp, NothingToSendKeysNothing, LsfBeforePackets, PacketsBegin, Spent, stream_spent, packets_spent, EndOnlyWhenSpent, EndAfterTheLast, NothingAfterTheEnd, QueuesStand}
-use Rattle.tnc_modulator.proofs.Cases.{passed as tested}
+use Rattle.tnc_modulator.specs.Modulator.{PACKETS, STREAMS, all_sound, given, tx_read, tx_number, kind_number}
+use Rattle.tnc_modulator.specs.Promises.{Box, read_of, afterwards, after_read, RefusedKeepsAll, Sound, SoundIsAnswered, SoundStaysSound, PttFollows, PreambleHasTheDelay, CarrierHoldsBack, KeysUp, NothingToSendKeysNothing, LsfBeforePackets, PacketsBegin, Spent, stream_spent, packets_spent, EndOnlyWhenSpent, EndAfterTheLast, NothingAfterTheEnd, QueuesStand, fields_of, only, UnusedIsZero}
 use Rattle.tnc_modulator.proofs.Outcomes.{sound_state_lem, sound_sending_lem, sound_packets_lem, sound_streams_lem, sound_channel_lem, Passed, none_waits, held_back, is_keyed_up, in_stream, stream_over, is_in_packets, ending, Refusal, wrong_store, out_of_bounds, Given, refused, passed, sound_outcome, outcome}
 
 -- ---- the answers of the two queues, told apart
@@ -106,7 +107,10 @@ module _ (x : Box) where
 
   -- what a sound box gives in a known state
   sound_given : Sound x → {t : Transmission} → transmission_of x.state ≡ t → given t x.state x.sending x.channel x.packets x.streams ≡ read_of x
-  sound_given s e = tested x.state x.sending x.channel x.packets x.streams s.its_packets s.its_streams s.its_state refl e
+  unfolding tx_read pick and
+  sound_given s e =
+      ap (λ (t : Transmission). given t x.state x.sending x.channel x.packets x.streams) (sym e)
+      ∙ rw (eq-eqb (length x.packets) PACKETS s.its_packets, eq-eqb (length x.streams) STREAMS s.its_streams, s.its_state)
 
   -- ---- refusals
 
@@ -366,3 +370,15 @@ delay_stands x (passed (ending on)) = refl
 
 pub queues_stand : QueuesStand
 queues_stand x = record { packets = packets_stand x (its_outcome x); streams = streams_stand x (its_outcome x); delay = delay_stands x (its_outcome x) }
+
+unused_zero : (a : Result (Option ModulatorFrame) LentError) → only a (fields_of a) ≡ fields_of a
+unused_zero (Ok None) = refl
+unused_zero (Ok (Some (Preamble delay))) = refl
+unused_zero (Ok (Some (Lsf lsf))) = refl
+unused_zero (Ok (Some (Stream frame))) = refl
+unused_zero (Ok (Some (Packet frame))) = refl
+unused_zero (Ok (Some EndOfTransmission)) = refl
+unused_zero (Err e) = refl
+
+pub unused_is_zero : UnusedIsZero
+unused_is_zero x = unused_zero (read_of x).answer

@@ -1,4 +1,3 @@
-pub mod Cases
 pub mod Callees
 pub mod Outcomes
 pub mod Kept

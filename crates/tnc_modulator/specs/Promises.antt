@@ -1,10 +1,15 @@
 -- What is promised of the reads for the modulator, from document 01. Each is proved in proofs/Kept.antt. Assumes nothing.
-use Rattle.std.specs.Prelude.{ℕ, true, false, List, ◌≢◌, ◌≡◌, length, Ok, Some, None}
+use Rattle.std.specs.Prelude.{ℕ, true, false, List, ◌≢◌, ◌≡◌, length, replicate, Result, Ok, Err, Option, Some, None}
 use Rattle.channel.specs.declared.Channel.{Channel}
 use Rattle.channel.specs.declared.Access.TheVariants.{Sends}
 use Rattle.channel.specs.Access.{accessed}
+use Rattle.room.specs.declared.LentError.{LentError}
+use Rattle.protocol.specs.declared.lsf.LsfFrame.{LsfFrame}
 use Rattle.protocol.specs.declared.StreamFrame.{StreamFrame}
-use Rattle.protocol.specs.declared.ModulatorFrame.TheVariants.{Preamble, Stream, EndOfTransmission}
+use Rattle.protocol.specs.declared.PacketFrame.{PacketFrame}
+use Rattle.protocol.specs.declared.PacketFrameCounter.TheVariants.{Frame}
+use Rattle.protocol.specs.declared.ModulatorFrame.{ModulatorFrame}
+use Rattle.protocol.specs.declared.ModulatorFrame.TheVariants.{Preamble, Lsf, Stream, Packet, EndOfTransmission}
 use Rattle.state.specs.declared.State.{State}
 use Rattle.state.specs.declared.State.TheVariants.{TxStream, TxStreamSentEndOfStream, TxPacket, TxEnding}
 use Rattle.state.specs.State.{transmits}
@@ -118,3 +123,47 @@ pub record Left (x : Box) : Type 0 where
 
 abbrev pub QueuesStand : Type 0
 QueuesStand = (x : Box) → Left x
+
+-- an answer laid out in fields: a delay, an LSF, a stream frame and a packet frame
+pub record Fields : Type 0 where
+  pub tx_delay : ℕ
+  pub lsf : LsfFrame
+  pub stream : StreamFrame
+  pub packet : PacketFrame
+
+abbrev pub filled_with : ℕ → LsfFrame → StreamFrame → PacketFrame → Fields
+filled_with delay lsf stream packet = record { tx_delay = delay; lsf = lsf; stream = stream; packet = packet }
+
+-- an LSF, a stream frame and a packet frame that are none
+abbrev pub no_lsf : LsfFrame
+no_lsf = record { 0 = replicate 30 0 }
+
+abbrev pub no_frame : StreamFrame
+no_frame = record { lich_idx = 0; lich_part = replicate 5 0; frame_number = 0; end_of_stream = false; stream_data = replicate 16 0 }
+
+abbrev pub no_piece : PacketFrame
+no_piece = record { payload = replicate 25 0; counter = Frame 0 }
+
+-- the fields of an answer, with zeros in place of what its frame has not
+abbrev pub fields_of : Result (Option ModulatorFrame) LentError → Fields
+fields_of (Ok None) = filled_with 0 no_lsf no_frame no_piece
+fields_of (Ok (Some (Preamble delay))) = filled_with delay no_lsf no_frame no_piece
+fields_of (Ok (Some (Lsf lsf))) = filled_with 0 lsf no_frame no_piece
+fields_of (Ok (Some (Stream frame))) = filled_with 0 no_lsf frame no_piece
+fields_of (Ok (Some (Packet frame))) = filled_with 0 no_lsf no_frame frame
+fields_of (Ok (Some EndOfTransmission)) = filled_with 0 no_lsf no_frame no_piece
+fields_of (Err e) = filled_with 0 no_lsf no_frame no_piece
+
+-- fields with only what the answer's kind uses, and zeros in place of the rest
+abbrev pub only : Result (Option ModulatorFrame) LentError → Fields → Fields
+only (Ok None) f = filled_with 0 no_lsf no_frame no_piece
+only (Ok (Some (Preamble delay))) f = filled_with f.tx_delay no_lsf no_frame no_piece
+only (Ok (Some (Lsf lsf))) f = filled_with 0 f.lsf no_frame no_piece
+only (Ok (Some (Stream frame))) f = filled_with 0 no_lsf f.stream no_piece
+only (Ok (Some (Packet frame))) f = filled_with 0 no_lsf no_frame f.packet
+only (Ok (Some EndOfTransmission)) f = filled_with 0 no_lsf no_frame no_piece
+only (Err e) f = filled_with 0 no_lsf no_frame no_piece
+
+-- fields that the answer's kind does not use are zero
+abbrev pub UnusedIsZero : Type 0
+UnusedIsZero = (x : Box) → only (read_of x).answer (fields_of (read_of x).answer) ≡ fields_of (read_of x).answer

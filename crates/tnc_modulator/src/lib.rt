@@ -1,5 +1,5 @@
 // What the TNC gives the modulator, frame by frame, as m17core's tnc.rs has it: a preamble once the channel may be used, a transmission's frames, and its end.
-#![tactic(auto)]
+#![tactic(auto, unfolding(crate::specs::Modulator::all_sound, crate::specs::Modulator::tx_read, choice::specs::Pick::and, choice::specs::Pick::pick))]
 
 ghost use Rattle.std.specs.Prelude.{◌≡◌};
 ghost use Rattle.tnc_modulator.specs.Modulator.{all_sound, tx_read};
@@ -26,7 +26,7 @@ pub fn read_tx_frame(
 ) -> TxRead
     ensures { result ≡ tx_read state sending channel packets.now streams.now }
 {
-    if (packets.len() != STORE_LEN) | (streams.len() != STREAM_STORE_LEN) {
+    if packets.len() != STORE_LEN || streams.len() != STREAM_STORE_LEN {
         return unfilled(Err(LentError::WrongStore), state, sending, channel);
     }
     if !all_sound(state, sending, channel) {
@@ -50,5 +50,5 @@ pub fn read_tx_frame(
 fn all_sound(state: State, sending: Sending, channel: Channel) -> bool
     ensures { result ≡ all_sound state sending channel }
 {
-    state.is_sound() & sending.is_sound() & channel.is_sound()
+    state.is_sound() && sending.is_sound() && channel.is_sound()
 }

@@ -16,7 +16,6 @@ use tnc_core::Tnc;
 pub fn new() -> Tnc
     ensures { result ≡ new_tnc }
 {
-    let buffer = KissBuffer::new();
     let streams = StreamQueue {
         next: 0,
         curr: 0,
@@ -24,7 +23,7 @@ pub fn new() -> Tnc
         pending: false,
     };
     Tnc {
-        buffer: buffer,
+        buffer: KissBuffer::new(),
         sending: Sending {
             packets: PacketQueue {
                 places: [Place {
@@ -36,12 +35,12 @@ pub fn new() -> Tnc
                 curr: 0,
                 full: false,
             },
-            streams: streams,
+            streams,
             tx_delay: 0,
         },
         radio: Radio {
             state: State::Idle,
-            outgoing: Outgoing { len: 0, read: 0 },
+            outgoing: Outgoing::new(),
         },
         ptt: false,
     }

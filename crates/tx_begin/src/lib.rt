@@ -1,5 +1,5 @@
 // The read that begins a transmission, as m17core's tnc.rs has it: a preamble once the channel may be used.
-#![tactic(auto)]
+#![tactic(auto, unfolding(crate::specs::Begin::keyed_up, crate::specs::Begin::begun, choice::specs::Pick::pick))]
 
 ghost use Rattle.std.specs.Prelude.{◌≡◌};
 ghost use Rattle.tx_begin.specs.Begin.{keyed_up, begun};

@@ -1,5 +1,5 @@
 // A read in a packet transmission, as m17core's tnc.rs has it.
-#![tactic(auto)]
+#![tactic(auto, unfolding(crate::specs::Packet::packet_given))]
 
 ghost use Rattle.std.specs.Prelude.{◌≡◌};
 ghost use Rattle.tx_packet.specs.Packet.{after_packet, packet_given};

@@ -1,5 +1,5 @@
 // A read in a stream transmission, as m17core's tnc.rs has it.
-#![tactic(auto)]
+#![tactic(auto, unfolding(crate::specs::Stream::stream_given, choice::specs::Pick::pick))]
 
 ghost use Rattle.std.specs.Prelude.{◌≡◌};
 ghost use Rattle.tx_stream.specs.Stream.{after_stream, stream_given};

@@ -1,18 +1,16 @@
 -- `block_load::load16` meets its contract. Assumes nothing.
-use Rattle.std.proofs.Common.{◌+◌, ◌<◌, ◌≤◌, ◌≡◌, sym, ◌∙◌, length, take, drop, rules}
-use Rattle.std.proofs.lemmas.Slice.{between_to_end}
+use Rattle.std.proofs.Common.{ℕ, ◌+◌, ◌-◌, ◌<◌, ◌≡◌, sym, ap, ◌∙◌, length, take, drop, arith, rules}
 use Rattle.blocks.proofs.Blocks.{loaded-yes, loaded_no}
 use Rattle.block_load.proofs.load16.Goals as goal
 
-pub returns-in-Some : goal.returns-in-Some
-returns-in-Some c =
+pub returns-then-s-at-ge16 : goal.returns-then-s-at-ge16
+returns-then-s-at-ge16 c =
     let a = c.args in
-    let h : a.at + 16 ≤ length a.s.now = search rules in
-    let e : c.in-Some.t.now ≡ take 16 (drop a.at a.s.now) = search (rules, between_to_end) in
-    e ∙ sym (loaded-yes a.s.now a.at h)
+    let sixteen : a.at + 16 - a.at ≡ 16 = omega arith in
+    c.copy_from_slice.ensures.after ∙ ap (λ (n : ℕ). take n (drop a.at a.s.now)) sixteen ∙ sym (loaded-yes a.s.now a.at (omega arith))
 
-pub returns-in-None : goal.returns-in-None
-returns-in-None c =
+pub returns-else-at-s : goal.returns-else-at-s
+returns-else-at-s c =
     let a = c.args in
     let h : length a.s.now < a.at + 16 = search rules in
     sym (loaded_no a.s.now a.at h)

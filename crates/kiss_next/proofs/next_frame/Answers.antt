@@ -1,148 +1,46 @@
 -- `kiss_next::next_frame` meets its contract. Assumes nothing.
 use Rattle.std.proofs.Common.{ℕ, ◌+◌, ◌-◌, ◌≤◌, ◌≡◌, sym, ap, ◌∙◌, arith}
-use mathlib.Core.Bool.{true, false}
 use mathlib.Core.List.{List}
-use mir.Val.{bool_byte}
-use lib.Dec.{eqb}
-use lib.ListN.{length}
-use Rattle.choice.specs.Pick.{and_snd}
-use Rattle.kiss_reader.specs.Reader.{STORE, front}
-use Rattle.kiss_reader.specs.Front.{or_empty}
-use Rattle.std.specs.Prelude.{Ok, None, Some}
-use Rattle.kiss_calls.specs.Calls.{reader_of, sound_buffer}
-use Rattle.kiss_calls.specs.Inside.{compacted}
-use Rattle.kiss_calls.proofs.Inner.{settled_part, settled_within, compacted-by}
-use Rattle.kiss_calls.proofs.Cases.{sound_filled, sound_some, and_sound, next_wrong, next_unsound, next_sound, held_from, compacted-count, compacted-left, settle-flush, found_none, found_some}
+use lib.ListN.{length, take, drop}
+use Rattle.std.specs.Prelude.{Ok}
+use Rattle.std.specs.Option.{is_some as has}
+use Rattle.room.specs.Room.{over}
+use Rattle.room.proofs.Copies.{moved, moved_none}
+use Rattle.kiss_reader.specs.Reader.{STORE, settle, front, is_some}
+use Rattle.kiss_reader.specs.Front.{length_of}
+use Rattle.kiss_reader.proofs.Fronts.{length-some}
+use Rattle.kiss_calls.specs.Calls.{reader_of}
+use Rattle.kiss_calls.proofs.Inner.{settled_part, compacted-by}
+use Rattle.kiss_calls.proofs.Cases.{and_sound, passed_within, filled_within, settles_within, next_unsound, next_sound, held_from, compacted-count, compacted-left, settle-flush, as_found}
 use Rattle.kiss_next.proofs.next_frame.Goals as goal
-
-pub returns-then-store-ne-MAX_FRAME_LEN : goal.returns-then-store-ne-MAX_FRAME_LEN
-returns-then-store-ne-MAX_FRAME_LEN c = let a = c.args in next_wrong a.buffer a.store.now c.if-store-ne-MAX_FRAME_LEN.true
+use Rattle.kiss_next.proofs.next_frame.Goals.{then-at-ne0, else-at-ne0}
 
 pub returns-then-not-is_sound : goal.returns-then-not-is_sound
 returns-then-not-is_sound c =
     let a = c.args in let l = c.if-store-ne-MAX_FRAME_LEN.false in
     next_unsound a.buffer a.store.now l (and_sound a.buffer a.store.now l c.is_sound.ensures ∙ c.if-not-is_sound.true)
 
-pub returns-then-len-eq0 : goal.returns-then-len-eq0
-returns-then-len-eq0 c =
-    let from : ℕ = bool_byte c.args.buffer.taken in
-    let filled : ℕ = c.args.buffer.filled in
-    let store : List ℕ = c.args.store.now in
-    let full : length store ≡ STORE = c.if-store-ne-MAX_FRAME_LEN.false in
-    let sound : sound_buffer c.args.buffer store ≡ true = and_snd (eqb (length store) STORE) _ (sym c.is_sound.ensures ∙ c.if-not-is_sound.false) in
-    let some : from ≤ filled = sound_some c.args.buffer store sound in
-    let fits : filled ≤ length store = omega (arith, sound_filled c.args.buffer store sound, full) in
-    let held : List ℕ = held_from from filled store in
-    let scanned : c.front_len-len.result ≡ length (or_empty (front held)) =
-    c.front_len-len.ensures
-    ∙ ap (λ (l : List ℕ). length (or_empty (front l))) (settled_part from filled c.settle_at.result store some fits c.settle_at.ensures) in
-    let left : (filled - (from + c.settle_at.result), c.shift.new.dst) ≡ compacted from filled store =
-    compacted-by from filled c.settle_at.result store some fits c.settle_at.ensures c.shift.ensures in
-    let b = c.args.buffer in let d = store in
-    (λ t. (record { answer = Ok None; buffer = record { filled = compacted-count from filled d left t; taken = false } }, compacted-left from filled d left t))
-    ∙ found_none (reader_of b d) d held (settle-flush b d) (sym scanned ∙ c.if-len-eq0.true)
-    ∙ next_sound b d full sound
-
 pub returns : goal.returns
 returns c =
-    let from : ℕ = bool_byte c.args.buffer.taken in
-    let filled : ℕ = c.args.buffer.filled in
-    let store : List ℕ = c.args.store.now in
-    let full : length store ≡ STORE = c.if-store-ne-MAX_FRAME_LEN.false in
-    let sound : sound_buffer c.args.buffer store ≡ true = and_snd (eqb (length store) STORE) _ (sym c.is_sound.ensures ∙ c.if-not-is_sound.false) in
-    let some : from ≤ filled = sound_some c.args.buffer store sound in
-    let fits : filled ≤ length store = omega (arith, sound_filled c.args.buffer store sound, full) in
-    let held : List ℕ = held_from from filled store in
-    let scanned : c.front_len-len.result ≡ length (or_empty (front held)) =
-    c.front_len-len.ensures
-    ∙ ap (λ (l : List ℕ). length (or_empty (front l))) (settled_part from filled c.settle_at.result store some fits c.settle_at.ensures) in
-    let left : (filled - (from + c.settle_at.result), c.shift.new.dst) ≡ compacted from filled store =
-    compacted-by from filled c.settle_at.result store some fits c.settle_at.ensures c.shift.ensures in
-    let b = c.args.buffer in let d = store in let n = c.front_len-len.result in
-    (λ t. (record { answer = Ok (Some n); buffer = record { filled = compacted-count from filled d left t; taken = true } }, compacted-left from filled d left t))
-    ∙ found_some (reader_of b d) d held (settle-flush b d) n scanned c.if-len-eq0.false
-    ∙ next_sound b d full sound
-
-pub slice_bounds-settle_at-count : goal.slice_bounds-settle_at-count
-slice_bounds-settle_at-count c =
-    let from : ℕ = bool_byte c.args.buffer.taken in
-    let filled : ℕ = c.args.buffer.filled in
-    let store : List ℕ = c.args.store.now in
-    let sound : sound_buffer c.args.buffer store ≡ true = and_snd (eqb (length store) STORE) _ (sym c.is_sound.ensures ∙ c.if-not-is_sound.false) in
-    let some : from ≤ filled = sound_some c.args.buffer store sound in
-    some
-
-pub slice_bounds-settle_at-start : goal.slice_bounds-settle_at-start
-slice_bounds-settle_at-start c =
-    let from : ℕ = bool_byte c.args.buffer.taken in
-    let filled : ℕ = c.args.buffer.filled in
-    let store : List ℕ = c.args.store.now in
-    let sound : sound_buffer c.args.buffer store ≡ true = and_snd (eqb (length store) STORE) _ (sym c.is_sound.ensures ∙ c.if-not-is_sound.false) in
-    let some : from ≤ filled = sound_some c.args.buffer store sound in
-    some
-
-pub slice_bounds-settle_at-end : goal.slice_bounds-settle_at-end
-slice_bounds-settle_at-end c =
-    let filled : ℕ = c.args.buffer.filled in
-    let store : List ℕ = c.args.store.now in
-    let full : length store ≡ STORE = c.if-store-ne-MAX_FRAME_LEN.false in
-    let sound : sound_buffer c.args.buffer store ≡ true = and_snd (eqb (length store) STORE) _ (sym c.is_sound.ensures ∙ c.if-not-is_sound.false) in
-    let fits : filled ≤ length store = omega (arith, sound_filled c.args.buffer store sound, full) in
-    fits
-
-pub overflow_add-at : goal.overflow_add-at
-overflow_add-at c =
-    let from : ℕ = bool_byte c.args.buffer.taken in
-    let filled : ℕ = c.args.buffer.filled in
-    let store : List ℕ = c.args.store.now in
-    let full : length store ≡ STORE = c.if-store-ne-MAX_FRAME_LEN.false in
-    let sound : sound_buffer c.args.buffer store ≡ true = and_snd (eqb (length store) STORE) _ (sym c.is_sound.ensures ∙ c.if-not-is_sound.false) in
-    let some : from ≤ filled = sound_some c.args.buffer store sound in
-    let fits : filled ≤ length store = omega (arith, sound_filled c.args.buffer store sound, full) in
-    let within : from + c.settle_at.result ≤ filled = settled_within from filled c.settle_at.result store some fits c.settle_at.ensures in
-    omega (arith, within)
-
-pub slice_bounds-front_len-count : goal.slice_bounds-front_len-count
-slice_bounds-front_len-count c =
-    let from : ℕ = bool_byte c.args.buffer.taken in
-    let filled : ℕ = c.args.buffer.filled in
-    let store : List ℕ = c.args.store.now in
-    let full : length store ≡ STORE = c.if-store-ne-MAX_FRAME_LEN.false in
-    let sound : sound_buffer c.args.buffer store ≡ true = and_snd (eqb (length store) STORE) _ (sym c.is_sound.ensures ∙ c.if-not-is_sound.false) in
-    let some : from ≤ filled = sound_some c.args.buffer store sound in
-    let fits : filled ≤ length store = omega (arith, sound_filled c.args.buffer store sound, full) in
-    let within : from + c.settle_at.result ≤ filled = settled_within from filled c.settle_at.result store some fits c.settle_at.ensures in
-    within
-
-pub slice_bounds-front_len-start : goal.slice_bounds-front_len-start
-slice_bounds-front_len-start c =
-    let from : ℕ = bool_byte c.args.buffer.taken in
-    let filled : ℕ = c.args.buffer.filled in
-    let store : List ℕ = c.args.store.now in
-    let full : length store ≡ STORE = c.if-store-ne-MAX_FRAME_LEN.false in
-    let sound : sound_buffer c.args.buffer store ≡ true = and_snd (eqb (length store) STORE) _ (sym c.is_sound.ensures ∙ c.if-not-is_sound.false) in
-    let some : from ≤ filled = sound_some c.args.buffer store sound in
-    let fits : filled ≤ length store = omega (arith, sound_filled c.args.buffer store sound, full) in
-    let within : from + c.settle_at.result ≤ filled = settled_within from filled c.settle_at.result store some fits c.settle_at.ensures in
-    within
-
-pub slice_bounds-front_len-end : goal.slice_bounds-front_len-end
-slice_bounds-front_len-end c =
-    let filled : ℕ = c.args.buffer.filled in
-    let store : List ℕ = c.args.store.now in
-    let full : length store ≡ STORE = c.if-store-ne-MAX_FRAME_LEN.false in
-    let sound : sound_buffer c.args.buffer store ≡ true = and_snd (eqb (length store) STORE) _ (sym c.is_sound.ensures ∙ c.if-not-is_sound.false) in
-    let fits : filled ≤ length store = omega (arith, sound_filled c.args.buffer store sound, full) in
-    fits
-
-pub overflow_sub-held : goal.overflow_sub-held
-overflow_sub-held c =
-    let from : ℕ = bool_byte c.args.buffer.taken in
-    let filled : ℕ = c.args.buffer.filled in
-    let store : List ℕ = c.args.store.now in
-    let full : length store ≡ STORE = c.if-store-ne-MAX_FRAME_LEN.false in
-    let sound : sound_buffer c.args.buffer store ≡ true = and_snd (eqb (length store) STORE) _ (sym c.is_sound.ensures ∙ c.if-not-is_sound.false) in
-    let some : from ≤ filled = sound_some c.args.buffer store sound in
-    let fits : filled ≤ length store = omega (arith, sound_filled c.args.buffer store sound, full) in
-    let within : from + c.settle_at.result ≤ filled = settled_within from filled c.settle_at.result store some fits c.settle_at.ensures in
-    within
+    let b = c.args.buffer in
+    let d : List ℕ = c.args.store.now in
+    let full : length d ≡ STORE = c.if-store-ne-MAX_FRAME_LEN.false in
+    let from : ℕ = c.from-from.result in
+    let filled : ℕ = b.filled in
+    let n : ℕ = c.settle_at.result in
+    let some : from ≤ filled = passed_within b d full c.is_sound.ensures c.if-not-is_sound.false from c.from-from.ensures in
+    let fits : filled ≤ length d = filled_within b d full c.is_sound.ensures c.if-not-is_sound.false in
+    let within : from + n ≤ filled = settles_within b d full c.is_sound.ensures c.if-not-is_sound.false from c.from-from.ensures n c.settle_at.ensures in
+    let held : List ℕ = held_from from filled d in
+    let scanned : c.front_len-len.result ≡ length_of (front held) =
+    c.front_len-len.ensures ∙ ap (λ (l : List ℕ). length_of (front l)) (settled_part from filled n d some fits c.settle_at.ensures) in
+    let marked : c.is_some.result ≡ is_some (front held) = c.is_some.ensures ∙ ap has scanned ∙ length-some (front held) in
+    let brought : c.if-at-ne0.store ≡ over (take (filled - (from + n)) (drop (from + n) d)) d =
+    elim c.if-at-ne0.branch [
+      | then-at-ne0 w ↦ w.store-is ∙ w.copy_within.ensures.after ∙ moved d (from + n) (filled - (from + n)) (omega (arith, within, fits))
+      | else-at-ne0 w ↦ w.store-is ∙ moved_none d (from + n) (filled - (from + n)) w.if-at-ne0.false (omega (arith, fits))
+    ] in
+    let left = compacted-by from filled n d some fits c.settle_at.ensures brought in
+    (λ t. (record { answer = Ok (scanned t); buffer = record { filled = compacted-count from filled d left t; taken = marked t } }, compacted-left from filled d left t))
+    ∙ as_found (reader_of b d) d held (settle-flush b d ∙ ap (λ (m : ℕ). settle (drop m (take filled d))) (sym c.from-from.ensures))
+    ∙ next_sound b d full (and_sound b d full c.is_sound.ensures ∙ c.if-not-is_sound.false)

@@ -1,8 +1,7 @@
 -- `store_shift::shift` meets its contract. Assumes nothing.
 use Rattle.std.proofs.Common.{ℕ, List, ◌-◌, sym, ap, ◌∙◌, arith}
 use Rattle.std.specs.Prelude.{Ok}
-use Rattle.room.proofs.Copies.{shifted-yes, shifted_beyond, shifted-turned}
-use Rattle.store_shift.proofs.Shifts.{moved_none, moved}
+use Rattle.room.proofs.Copies.{shifted-yes, shifted_beyond, shifted-turned, moved_none, moved}
 use Rattle.store_shift.proofs.shift.Goals as goal
 
 pub returns-then-dst-to : goal.returns-then-dst-to

@@ -1,14 +1,15 @@
 -- `tnc_link::iflazrud_tnc_event` meets its contract. Assumes nothing.
 use Rattle.std.proofs.Common.{refl, ap, ◌∙◌}
-use Rattle.choice.specs.Pick.{pick_yes, pick_no, not_yes, not_no}
+use Rattle.choice.specs.Pick.{pick_yes, pick_no}
 use Rattle.event_answer.specs.declared.EventBox.{EventBox}
 use Rattle.event_step.specs.Step.{applied, world_of}
 use Rattle.tnc_link.specs.Saved.{box_of, saved_turn, of_turn, event_on}
+use Rattle.tnc_link.proofs.Known.{read_no, read-yes}
 use Rattle.tnc_link.proofs.iflazrud_tnc_event.Goals as goal
 
-pub returns-then-not-read : goal.returns-then-not-read
+pub returns-in_default : goal.returns-in_default
 unfolding event_on
-returns-then-not-read c = pick_no _ (not_no (λ t. (c.state_of-read.ensures t).valid) c.if-not-read.true) refl
+returns-in_default c = pick_no _ (read_no _ _ c.try_from.ensures c.in_default.is) refl
 
 pub returns : goal.returns
 unfolding event_on
@@ -16,10 +17,11 @@ returns c =
     let a = c.args in
     let v = a.saved in
     let l = c.apply-applied.new in
+    let read = read-yes v.state v.value c.try_from.ensures c.in-Ok.is in
     (λ t. saved_turn (c.tell.ensures t) l.reader l.packets l.streams l.rx l.message l.bytes)
     ∙ ap of_turn c.apply-applied.ensures
     ∙ ap
     (λ (b : EventBox).
     of_turn (applied a.kind a.body.now (world_of b a.reader.now a.packets.now a.streams.now a.rx.now a.message.now) a.bytes.now))
-    (c.restore.ensures ∙ (λ t. box_of v.buffer v.sending (c.state_of-read.ensures t).state v.outgoing v.ptt v.channel))
-    ∙ pick_yes _ (not_yes (λ t. (c.state_of-read.ensures t).valid) c.if-not-read.false) refl
+    (c.restore.ensures ∙ (λ t. box_of v.buffer v.sending (read.1 t) v.outgoing v.ptt v.channel))
+    ∙ pick_yes _ read.0 refl

@@ -1,66 +1,20 @@
--- `packets::PacketQueue::is_sound` meets its contract. The invariant: what is left to test of the places decides over all of them. Assumes nothing.
-use Rattle.std.proofs.Common.{ℕ, ◌-◌, ◌≡◌, refl, sym, ◌∙◌, arith, rules}
-use mathlib.Core.Bool.{true}
-use mathlib.Core.List.{List, map}
-use lib.ListN.{length, length-map}
-use Rattle.choice.specs.Pick.{tests, and_no}
-use Rattle.choice.specs.Cases.{all_pass}
+-- `packets::PacketQueue::is_sound` meets its contract. Assumes nothing.
+use Rattle.std.proofs.Common.{rules, tests, ◌≡◌, ◌∙◌}
+use Rattle.std.proofs.lemmas.Iterator.Search.{all_from_yields_List}
+use Rattle.std.proofs.lemmas.Iterator.{YieldsList-from_slice}
+use mathlib.Core.Bool.{◌&&◌}
+use lib.Dec.{leb}
+use Rattle.std.specs.List.{list_all}
+use Rattle.choice.specs.Pick.{and}
+use Rattle.ring.specs.Ring.{sound_ring}
 use Rattle.packets.specs.declared.Place.{Place}
-use Rattle.packets.specs.Queue.{sound_place, sound_queue}
-use Rattle.packets.proofs.Bounds.{sound_place_lem, sent_beyond, len_beyond, places_no, places_go, places_end}
+use Rattle.packets.specs.Queue.{sound_queue}
+use Rattle.packets.proofs.Bounds.{and_is, places_all}
 use Rattle.packets.proofs.PacketQueue.is_sound.Goals as goal
 
--- an array of structs is owned as a list of their values
-unmapped : {Y : Type 0} (l : List Place) (f : Place → Y) (n : ℕ) → length (map f l) ≡ n → length l ≡ n
-unmapped l f n e = sym (length-map l f) ∙ e
-
-pub loop-i-init : goal.loop-i-init
-loop-i-init c = (search rules, refl)
-
-pub returns-then-place : goal.returns-then-place
-unfolding sound_queue
-returns-then-place c =
-    let four : length c.args.self.places ≡ 4 = search (rules, unmapped) in
-    let ps = c.args.self.places in
-    and_no _ (sym c.loop-i.invariant.1 ∙ places_no ps c.loop-i.i (omega (arith, four)) (sent_beyond _ c.if-place.true))
-
-pub returns-then-place-gt-MAX_DATA_LEN : goal.returns-then-place-gt-MAX_DATA_LEN
-unfolding sound_queue
-returns-then-place-gt-MAX_DATA_LEN c =
-    let four : length c.args.self.places ≡ 4 = search (rules, unmapped) in
-    let ps = c.args.self.places in
-    and_no _ (sym c.loop-i.invariant.1 ∙ places_no ps c.loop-i.i (omega (arith, four)) (len_beyond _ c.if-place.false c.if-place-gt-MAX_DATA_LEN.true))
-
-pub loop-i-preserved : goal.loop-i-preserved
-loop-i-preserved c =
-    let four : length c.args.self.places ≡ 4 = search (rules, unmapped) in
-    let ps = c.args.self.places in
-    (search rules, places_go ps c.loop-i.i (omega (arith, four)) (sound_place_lem _ c.if-place.false c.if-place-gt-MAX_DATA_LEN.false) ∙ c.loop-i.invariant.1)
-
-pub returns-then-self-ge4 : goal.returns-then-self-ge4
-unfolding sound_queue
-returns-then-self-ge4 c =
-    let four : length c.args.self.places ≡ 4 = search (rules, unmapped) in
-    let all : all_pass sound_place c.args.self.places ≡ true = sym c.loop-i.invariant.1 ∙ places_end c.args.self.places c.loop-i.i (omega (arith, four)) in
-    search (tests, all)
-
-pub returns-then-self-ge4-2 : goal.returns-then-self-ge4-2
-unfolding sound_queue
-returns-then-self-ge4-2 c =
-    let four : length c.args.self.places ≡ 4 = search (rules, unmapped) in
-    let all : all_pass sound_place c.args.self.places ≡ true = sym c.loop-i.invariant.1 ∙ places_end c.args.self.places c.loop-i.i (omega (arith, four)) in
-    search (tests, all)
-
-pub returns-then-self : goal.returns-then-self
-unfolding sound_queue
-returns-then-self c =
-    let four : length c.args.self.places ≡ 4 = search (rules, unmapped) in
-    let all : all_pass sound_place c.args.self.places ≡ true = sym c.loop-i.invariant.1 ∙ places_end c.args.self.places c.loop-i.i (omega (arith, four)) in
-    search (tests, all)
-
 pub returns : goal.returns
-unfolding sound_queue
+unfolding sound_queue sound_ring
 returns c =
-    let four : length c.args.self.places ≡ 4 = search (rules, unmapped) in
-    let all : all_pass sound_place c.args.self.places ≡ true = sym c.loop-i.invariant.1 ∙ places_end c.args.self.places c.loop-i.i (omega (arith, four)) in
-    search (tests, all)
+    let all : c.all.result ≡ list_all (λ (p : Place). leb p.sent p.len && leb p.len 825) c.args.self.places =
+    all_from_yields_List (λ (p : Place). leb p.sent p.len && leb p.len 825) _ _ c.all.result c.all.ensures.ran (YieldsList-from_slice c.args.self.places cc) (λ x b q k. search (rules, tests)) in
+    and_is _ _ ∙ (λ t. and ((all ∙ places_all c.args.self.places) t) (c.is_sound.ensures t))
