@@ -13,6 +13,8 @@ ghost use Rattle.event_answer.specs.Answer.{refused};
 ghost use Rattle.event_air.specs.Air.{of_heard};
 
 use event_answer::{Applied, EventBox, answer, number_of, refuse};
+use event_packet::packet_frame;
+use event_stream::stream_frame;
 use protocol::{Frame, LsfFrame};
 use tnc_receive::handle_frame;
 
@@ -31,12 +33,7 @@ pub fn packet(before: EventBox, body: &[u8], rx: &mut [u8], message: &mut [u8]) 
     let Ok(body) = <[u8; 26]>::try_from(body) else {
         return refuse(before);
     };
-    told(
-        before,
-        Frame::Packet(event_packet::packet_frame(body)),
-        rx,
-        message,
-    )
+    told(before, Frame::Packet(packet_frame(body)), rx, message)
 }
 
 pub fn stream(before: EventBox, body: &[u8], rx: &mut [u8], message: &mut [u8]) -> Applied
@@ -45,12 +42,7 @@ pub fn stream(before: EventBox, body: &[u8], rx: &mut [u8], message: &mut [u8]) 
     let Ok(body) = <[u8; 25]>::try_from(body) else {
         return refuse(before);
     };
-    told(
-        before,
-        Frame::Stream(event_stream::stream_frame(body)),
-        rx,
-        message,
-    )
+    told(before, Frame::Stream(stream_frame(body)), rx, message)
 }
 
 // A frame from the air prints no bytes, and leaves the channel as it was.
