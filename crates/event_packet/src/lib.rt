@@ -27,6 +27,7 @@ pub fn packet_body(frame: PacketFrame) -> [u8; 26]
 
 const FINAL: u8 = 128;
 
+#[tactic(auto, using(choice::specs::Pick::tests), unfolding(crate::specs::Packet::counter_of))]
 fn counter_of(byte: u8) -> PacketFrameCounter
     ensures { result ≡ counter_of byte }
 {
