@@ -1,11 +1,11 @@
 // The push of a data frame of port 0, behind `packets`, which has the record and the definitions: its content becomes a packet that waits.
 #![tactic(auto)]
 
-ghost use Rattle.std.specs.Prelude.{◌≡◌, ◌+◌, ◌≤◌, length};
+ghost use Rattle.std.specs.Prelude.{◌≡◌, ◌+◌, ◌≤◌, is_ok, length};
 ghost use Rattle.kiss_layout.specs.Read.{decoded};
 ghost use Rattle.packets.specs.Frames.{zeros};
 ghost use Rattle.packets.specs.Queue.{ROOM, pushed_basic};
-ghost use Rattle.packet_basic.specs.Inside.{is_payload, decoded_at, sealed_at};
+ghost use Rattle.packet_basic.specs.Inside.{decoded_at, sealed_at};
 
 use kiss_layout::PushError;
 use kiss_read::decode_payload;
@@ -61,7 +61,7 @@ pub fn push_basic(queue: PacketQueue, frame: &[u8], store: &mut [u8]) -> Pushed
 
 // The frame holds a header and a FEND behind it. This is asked before anything of the store is touched.
 fn has_payload(frame: &[u8]) -> bool
-    ensures { result ≡ is_payload (decoded frame.now (zeros 1)).0 }
+    ensures { result ≡ is_ok (decoded frame.now (zeros 1)).0 }
 {
     let mut room = [0u8; 1];
     decode_payload(frame, &mut room).is_ok()
