@@ -24,11 +24,16 @@ def short(file):
     return file.split("/crates/")[1].replace("/src/lib.rt", "").replace("/src/", "/")
 
 
-def lines(pattern):
+def lines(pattern, conversions=True):
     out = []
     for file in FILES:
+        inside = False
         for n, line in code(file):
-            if re.search(pattern, line):
+            if re.match(r"impl ", line):
+                inside = re.match(r"impl (Try)?From<", line)
+            elif re.match(r"\}", line):
+                inside = False
+            if re.search(pattern, line) and (conversions or not inside):
                 out.append(f"{short(file)}:{n} {line.strip()}")
     return out
 
@@ -64,7 +69,7 @@ def flagged():
 
 
 def numbered():
-    out = lines(r"^\s*match (kind|value|bit|bits|v|number)\b") + lines(r"=> (return )?[0-9]+,$")
+    out = lines(r"^\s*match (kind|value|bit|bits|v|number)\b", False) + lines(r"=> (return )?[0-9]+,$", False)
     return out + lines(r"const \w+: usize = ([1-9] \* )?65536;")
 
 

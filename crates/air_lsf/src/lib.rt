@@ -16,21 +16,21 @@ use state::State;
 pub fn handle_lsf(radio: Radio, lsf: LsfFrame, rx: &mut [u8], out: &mut [u8]) -> Heard
     ensures { (result, rx.new, out.new) ≡ lsf_heard radio lsf.0 rx.old out.old }
 {
-    let bytes = lsf.0;
     match hears(radio, rx.len(), out.len()) {
-        Hears::Answer(answer) => return Heard {
-            answer: answer,
-            radio: radio,
+        Err(error) => Heard {
+            answer: Err(error),
+            radio,
         },
-        Hears::Frame => match lsf_frame::mode(lsf) {
+        Ok(false) => Heard {
+            answer: Ok(()),
+            radio,
+        },
+        Ok(true) => match lsf_frame::mode(lsf) {
             Mode::Packet => {
-                store::copy_in(&bytes, rx, 0);
-                return radio.turned(State::RxPacket(0));
+                rx[..30].copy_from_slice(&lsf.0);
+                radio.turned(State::RxPacket(0))
             }
-            Mode::Stream => {
-                let built = new_stream_setup(&bytes, out);
-                return told(State::RxStream(0), built);
-            }
+            Mode::Stream => told(State::RxStream(0), new_stream_setup(&lsf.0, out)),
         },
     }
 }

@@ -41,7 +41,7 @@ abbrev pub new_world : List ℕ → List ℕ → List ℕ → List ℕ → List 
 new_world reader packets streams rx message =
     record { tnc = new_tnc; channel = new_channel; reader = reader; packets = packets; streams = streams; rx = rx; message = message }
 
--- one constructor for each public call, with what it is handed beside the world
+-- one constructor for each public call, of handle_frame one for each kind of frame, with what it is handed beside the world
 pub data Call : Type 0 where
   write_kiss : (buf : List ℕ) → Call
   read_kiss : (target : List ℕ) → Call

@@ -1,7 +1,6 @@
 -- Every event's number has one digit, and its line at most 518 bytes. Assumes nothing.
 use Prim.Native.Nat.{ℕ, ◌≤◌, min}
 use mathlib.Core.List.{List}
-use mathlib.Core.Option.{Option, none, some}
 use native.Mathlib.Omega.{arith}
 use lib.ListN.{length, length-take}
 use Rattle.choice.specs.Pick.{pick_all}
@@ -81,8 +80,8 @@ call_digit w read_tx_frame = kind_digit (gives w).answer
 
 perhaps_digit : (w : World) (room : List ℕ) (c : Option Call) → (perhaps w room c).number ≤ 9
 unfolding made not_made
-perhaps_digit w room none = omega arith
-perhaps_digit w room (some c) = call_digit w c
+perhaps_digit w room None = omega arith
+perhaps_digit w room (Some c) = call_digit w c
 
 pub one_digit : (k : ℕ) (b : List ℕ) (w : World) (room : List ℕ) → (applied k b w room).number ≤ 9
 unfolding applied not_made

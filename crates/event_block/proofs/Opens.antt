@@ -155,11 +155,7 @@ module _ (t : Tnc) (c : Channel) (reader packets streams : List ℕ) (b : ℕ)
 
 keyed_sound : (t : Tnc) → sound_tnc t ≡ true → keyed t ≡ t.ptt
 unfolding ptt_of pick
-keyed_sound t e = rw e (by t.ptt)
-  where
-    by : (on : Bool) → on_flag (pick on (Ok true) (Ok false)) ≡ on
-    by true = refl
-    by false = refl
+keyed_sound t e = rw e
 
 module _ (x : EventBox) (r p q rx m y d : List ℕ) (n b : ℕ) (room : MOST ≤ length y)
     (ready : is_open x.tnc x.channel r (length p) (length q) ≡ true) (keep : keeps HOST b (length d - n) (length r - x.tnc.buffer.filled) ≡ true) where

@@ -1,11 +1,10 @@
 // The events of a block of input, each applied and its line written.
 #![tactic(auto)]
 
-ghost use Rattle.std.specs.Prelude.{◌≡◌, ◌≤◌, min, length};
+ghost use Rattle.std.specs.Prelude.{◌≡◌, ◌≤◌, length};
 ghost use Rattle.event_step.specs.Step.{world_of};
 ghost use Rattle.event_block.specs.Spot.{spot, stepped};
 ghost use Rattle.event_block.specs.Block.{block, block_run};
-ghost use Rattle.event_answer.specs.Answer.{MOST};
 
 use event_answer::{EventBox, LINE_LEN, MOST_BYTES, Taken};
 use event_input::Next;

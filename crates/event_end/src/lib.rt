@@ -5,8 +5,8 @@ ghost use Rattle.std.specs.Prelude.{◌≡◌};
 ghost use Rattle.event_answer.specs.Answer.{keyed};
 ghost use Rattle.event_end.specs.End.{place_after, last_line};
 
-use event_line::LineError;
 use event_answer::EventBox;
+use event_line::LineError;
 
 // The place behind a line that was to be written from index at on.
 pub fn place_after(line: Result<usize, LineError>, at: usize) -> usize

@@ -20,7 +20,14 @@ pub enum LineError {
 }
 
 // Puts the line of an event into dst from index at on. Where it is not written dst is left as it is.
-pub fn put_line(kind: u8, number: u8, ptt: bool, bytes: &[u8], dst: &mut [u8], at: usize) -> Result<usize, LineError>
+pub fn put_line(
+    kind: u8,
+    number: u8,
+    ptt: bool,
+    bytes: &[u8],
+    dst: &mut [u8],
+    at: usize,
+) -> Result<usize, LineError>
     ensures { (result, dst.new) ≡ written kind number ptt bytes.now dst.old at }
 {
     if 9 < number {

@@ -96,5 +96,13 @@ fn turn<R: Read, W: Write>(
             going: false,
         };
     }
-    event_session::follow(run.after, source, target, input, run.used, from + run.used, held)
+    event_session::follow(
+        run.after,
+        source,
+        target,
+        input,
+        run.used,
+        from + run.used,
+        held,
+    )
 }

@@ -3,7 +3,7 @@ use Prim.Native.Nat.{ℕ, ◌≤◌, ◌<◌}
 use mathlib.Core.Bool.{Bool, true, false, not}
 use mathlib.Core.Path.{◌≡◌, refl, sym, ap, ◌∙◌}
 use mathlib.Core.List.{List}
-use mathlib.Core.Option.{Option, none, some}
+use Rattle.std.specs.Prelude.{Option, Some, None}
 use borrow.Author.Tests.{le-leb, lt-leb}
 use lib.Dec.{leb, eqb}
 use lib.ListN.{length, take, get_or}
@@ -63,7 +63,7 @@ module _ (x : EventBox) (k : ℕ) (b r p s rx m room : List ℕ) where
   pub small : (y : Applied) → y ≡ refused x → length room < MOST → turn_of y r p s rx m room ≡ applied k b (world_of x r p s rx m) room
   small y e h = is_refused y e ∙ too_small k b (world_of x r p s rx m) room h
 
-  pub unknown : (y : Applied) → y ≡ refused x → MOST ≤ length room → none ≡ call_of k b room → turn_of y r p s rx m room ≡ applied k b (world_of x r p s rx m) room
+  pub unknown : (y : Applied) → y ≡ refused x → MOST ≤ length room → None ≡ call_of k b room → turn_of y r p s rx m room ≡ applied k b (world_of x r p s rx m) room
   unknown y e h n =
       is_refused y e
       ∙ pick_same (eqb (length b) (body_len k)) (not_made (world_of x r p s rx m) room)
@@ -71,7 +71,7 @@ module _ (x : EventBox) (k : ℕ) (b r p s rx m room : List ℕ) where
 
 -- the nine kinds
 module _ (x : EventBox) (k : ℕ) (b r p s rx m room : List ℕ) (h : MOST ≤ length room) where
-  done : (c : Call) (n : ℕ) → body_len k ≡ n → call_of k b room ≡ some c → pick (eqb (length b) n) (made (world_of x r p s rx m) room c) (not_made (world_of x r p s rx m) room) ≡ applied k b (world_of x r p s rx m) room
+  done : (c : Call) (n : ℕ) → body_len k ≡ n → call_of k b room ≡ Some c → pick (eqb (length b) n) (made (world_of x r p s rx m) room c) (not_made (world_of x r p s rx m) room) ≡ applied k b (world_of x r p s rx m) room
   done c n l e = by_body k b (world_of x r p s rx m) room h n l e
 
   pub on_host : k ≡ 1 → {q : Applied × List ℕ × List ℕ × List ℕ} → q ≡ pick (eqb (length b) 1) (of_write (tnc_written x.tnc x.channel b r p s)) (refused x, r, p, s) → turn_of q.0 q.1 q.2 q.3 rx m room ≡ applied k b (world_of x r p s rx m) room

@@ -1,7 +1,6 @@
 -- What an event does: the call of the TNC that it stands for, over the worlds and calls of crate any_calls, its number, PTT as after it, and the bytes that it prints,
 -- from document 01's "Event program". Assumes nothing.
-use Rattle.std.specs.Prelude.{ℕ, Bool, not, List, leb, eqb, length, take, get_or}
-use Rattle.std.proofs.Math.Option.{Option, none, some}
+use Rattle.std.specs.Prelude.{ℕ, Bool, not, List, leb, eqb, length, take, get_or, Option, Some, None}
 use Rattle.choice.specs.Pick.{pick}
 use Rattle.room.specs.Room.{over}
 use Rattle.outgoing.specs.Message.{read_count}
@@ -20,14 +19,14 @@ use Rattle.event_tx.specs.Tx.{laid_out}
 
 unfoldable pub call_of : ℕ → List ℕ → List ℕ → Option Call
 call_of kind body room =
-    pick (eqb kind HOST) (some (write_kiss body))
-    (pick (eqb kind CARRIER) (some (set_data_carrier_detect (not (eqb (get_or body 0 0) 0))))
-    (pick (eqb kind CLOCK) (some (set_now (eight_bytes body 0)))
-    (pick (eqb kind ENDTIME) (some (set_tx_end_time (four_bytes body 0)))
-    (pick (eqb kind LSF) (some (handle_lsf body))
-    (pick (eqb kind PACKET) (some (handle_packet (packet_of body)))
-    (pick (eqb kind STREAM) (some (handle_stream (frame_of body)))
-    (pick (eqb kind READTX) (some read_tx_frame) (pick (eqb kind READHOST) (some (read_kiss (take (get_or body 0 0) room))) none))))))))
+    pick (eqb kind HOST) (Some (write_kiss body))
+    (pick (eqb kind CARRIER) (Some (set_data_carrier_detect (not (eqb (get_or body 0 0) 0))))
+    (pick (eqb kind CLOCK) (Some (set_now (eight_bytes body 0)))
+    (pick (eqb kind ENDTIME) (Some (set_tx_end_time (four_bytes body 0)))
+    (pick (eqb kind LSF) (Some (handle_lsf body))
+    (pick (eqb kind PACKET) (Some (handle_packet (packet_of body)))
+    (pick (eqb kind STREAM) (Some (handle_stream (frame_of body)))
+    (pick (eqb kind READTX) (Some read_tx_frame) (pick (eqb kind READHOST) (Some (read_kiss (take (get_or body 0 0) room))) None))))))))
 
 -- ---- the bytes: of 08 the delay, the LSF, or a frame laid out as the body of its event; of 09 what was read
 
@@ -41,7 +40,7 @@ bytes_after w (set_data_carrier_detect dcd) room = (0, room)
 bytes_after w (set_now samples) room = (0, room)
 bytes_after w (set_tx_end_time samples) room = (0, room)
 bytes_after w ptt room = (0, room)
-bytes_after w read_tx_frame room = laid_out (gives w).answer (gives w) room
+bytes_after w read_tx_frame room = laid_out (gives w).answer room
 
 -- ---- the number: of 08 that of the frame's kind, else that of the call's answer
 
@@ -77,8 +76,8 @@ unfoldable pub not_made : World → List ℕ → Turn
 not_made w room = record { number = 9; count = 0; ptt = keyed w.tnc; world = w; bytes = room }
 
 abbrev pub perhaps : World → List ℕ → Option Call → Turn
-perhaps w room none = not_made w room
-perhaps w room (some c) = made w room c
+perhaps w room None = not_made w room
+perhaps w room (Some c) = made w room c
 
 unfoldable pub applied : ℕ → List ℕ → World → List ℕ → Turn
 applied kind body w room =

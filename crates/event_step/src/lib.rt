@@ -118,7 +118,7 @@ fn read_host(before: EventBox, body: &[u8], message: &[u8], bytes: &mut [u8]) ->
     if bytes.len() < MOST_BYTES {
         return refuse(before);
     }
-    let most = usize::from(body[0]);
+    let most = body[0] as usize;
     let read = tnc_read::read_kiss(before.tnc, message, &mut bytes[..most]);
     let count = read.answer.unwrap_or(0);
     answer(number_of(read.answer), count, read.tnc, before.channel)

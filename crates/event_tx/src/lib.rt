@@ -1,8 +1,9 @@
 // The event of the modulator: a read of its next frame, laid out in bytes. A body, or a room for fewer than 255 bytes, is answered 9.
-#![tactic(auto)]
+#![tactic(auto, unfolding(crate::specs::Tx::laid_out, crate::specs::Tx::frame_bytes, choice::specs::Pick::pick))]
 
 ghost use Rattle.std.specs.Prelude.{◌≤◌, ◌≡◌, leb, eqb, length};
 ghost use Rattle.choice.specs.Pick.{pick};
+ghost use Rattle.room.specs.Room.{over};
 ghost use Rattle.tnc_modulator.specs.Modulator.{kind_number};
 ghost use Rattle.tnc_transmit.specs.Calls.{tnc_tx};
 ghost use Rattle.event_answer.specs.Answer.{MOST, refused};
@@ -21,7 +22,7 @@ pub fn read_tx(
 ) -> Applied
     ensures { (result, bytes.new) ≡ pick (eqb (length body.now) 0) (pick (leb MOST (length bytes.old)) (of_tx (tnc_tx before.tnc before.channel packets.now streams.now) bytes.old) (refused before, bytes.old)) (refused before, bytes.old) }
 {
-    if (body.len() != 0) | (bytes.len() < MOST_BYTES) {
+    if !body.is_empty() || bytes.len() < MOST_BYTES {
         return refuse(before);
     }
     let read = tnc_transmit::read_tx_frame(before.tnc, before.channel, packets, streams);
@@ -38,24 +39,21 @@ fn lay_out(given: Result<Option<ModulatorFrame>, LentError>, bytes: &mut [u8]) -
         return 0;
     };
     match frame {
-        ModulatorFrame::Preamble { tx_delay } => {
-            bytes[0] = tx_delay;
-            1
-        }
-        ModulatorFrame::Lsf(lsf) => {
-            bytes[..30].copy_from_slice(&lsf.0);
-            30
-        }
-        ModulatorFrame::Stream(frame) => {
-            bytes[..25].copy_from_slice(&event_stream::stream_body(frame));
-            25
-        }
-        ModulatorFrame::Packet(frame) => {
-            bytes[..26].copy_from_slice(&event_packet::packet_body(frame));
-            26
-        }
+        ModulatorFrame::Preamble { tx_delay } => put(&[tx_delay], bytes),
+        ModulatorFrame::Lsf(lsf) => put(&lsf.0, bytes),
+        ModulatorFrame::Stream(frame) => put(&event_stream::stream_body(frame), bytes),
+        ModulatorFrame::Packet(frame) => put(&event_packet::packet_body(frame), bytes),
         ModulatorFrame::EndOfTransmission => 0,
     }
+}
+
+fn put(src: &[u8], bytes: &mut [u8]) -> usize
+    requires { length src.now ≤ length bytes.old }
+    ensures counted { result ≡ length src.now }
+    ensures put { bytes.new ≡ over src.now bytes.old }
+{
+    bytes[..src.len()].copy_from_slice(src);
+    src.len()
 }
 
 fn kind_number(given: Result<Option<ModulatorFrame>, LentError>) -> u8

@@ -6,12 +6,12 @@ ghost use Rattle.host_frame.specs.Frame.{obeyed_on, obeyed, frame_taken};
 ghost use Rattle.host_frame.specs.Data.{with_packets, with_streams, data_taken};
 ghost use Rattle.host_frame.specs.Setting.{setting_in, delay_set, duplex_of};
 
-use room::LentError;
 use host_record::{Host, stores_fit};
 use kiss_header::{command, port};
 use kiss_layout::KissCommand;
 use kiss_read::decode_payload;
 use packets::PacketQueue;
+use room::LentError;
 use streams::StreamQueue;
 
 #[derive(Clone, Copy)]
@@ -73,9 +73,18 @@ fn take_data(host: Host, number: u8, frame: &[u8], packets: &mut [u8], streams: 
 {
     let sending = host.sending;
     match number {
-        0 => with_packets(host, packet_basic::push_basic(sending.packets, frame, packets).queue),
-        1 => with_packets(host, packet_full::push_full(sending.packets, frame, packets).queue),
-        _ => with_streams(host, stream_push::push(sending.streams, frame, streams).queue),
+        0 => with_packets(
+            host,
+            packet_basic::push_basic(sending.packets, frame, packets).queue,
+        ),
+        1 => with_packets(
+            host,
+            packet_full::push_full(sending.packets, frame, packets).queue,
+        ),
+        _ => with_streams(
+            host,
+            stream_push::push(sending.streams, frame, streams).queue,
+        ),
     }
 }
 

@@ -1,17 +1,16 @@
 -- Runs of stores that stay within a part of a store, and the room of a port 0 packet. Assumes nothing.
-use Prim.Native.Nat.{ℕ, suc, ◌+◌, ◌-◌, ◌/◌, ◌%◌, ◌≤◌}
+use Prim.Native.Nat.{ℕ, suc, ◌+◌, ◌-◌, ◌≤◌}
 use mathlib.Core.Path.{◌≡◌, refl, sym, ap, ◌∙◌}
-use mathlib.Core.List.{List, [], ◌∷◌, ◌++◌, append_assoc}
-use native.Mathlib.Numerals.{add-one}
+use mathlib.Core.List.{List, [], ◌∷◌, ◌++◌, append_assoc, append-nil}
 use native.Mathlib.Omega.{arith}
-use lib.ListN.{length, take, drop, set, replicate, length-set, length-append, length-replicate}
-use lib.Seq.{sets, sets-eq, length-sets, length-take-le, take_all, set-append_left, drop_at, drop-drop}
+use lib.ListN.{length, take, drop, set, replicate, length-set, length-append, length-take, length-drop}
+use lib.Seq.{sets, sets-eq, length-sets, length-take-le, set-append_left, drop_at, drop-drop}
 use borrow.Rule.Slice.PartMut.{mid_of, put_mid}
 use Rattle.std.specs.Prelude.{Result, ℕ}
+use Rattle.std.specs.Result.{result_unwrap_or}
 use Rattle.kiss_layout.specs.declared.KissError.{KissError}
-use Rattle.room.specs.declared.NoRoom.{NoRoom}
-use Rattle.room.specs.Room.{placed, copied}
-use Rattle.room.proofs.Copies.{copied_in}
+use Rattle.room.specs.Room.{placed}
+use Rattle.room.proofs.Parts.{lent_placed}
 use Rattle.room.proofs.Places.{placed-length}
 use Rattle.room.proofs.Runs.{sets_append, put_all, put_front}
 use Rattle.crc.specs.Crc.{crc_of, two_bytes}
@@ -22,6 +21,7 @@ use Rattle.packets.specs.Frames.{zeros}
 use Rattle.packets.specs.Queue.{ROOM, RAW, basic_room}
 use Rattle.packets.specs.Inside.{count_of}
 use Rattle.packet_basic.specs.Inside.{decoded_at, sealed_at}
+use Rattle.packet_basic.proofs.Payloads.{count_is}
 use Rattle.packets.proofs.Decoding.{in_room}
 use Rattle.packets.proofs.Rooms.{start, apart, part_placed, length-zeros, basic_lsf_length}
 
@@ -71,45 +71,32 @@ lent_all a k d v h e =
 
 -- ---- the room of a port 0 packet
 
--- a cleared room, decoded into behind its first 31 bytes
+-- a room of the store, cleared and decoded into behind its first 31 bytes
 module _ (s : List ℕ) (at : ℕ) (fits : at + ROOM ≤ length s) where
-  cleared_fits : at + length (zeros 31 ++ zeros 824) ≤ length s
-  cleared_fits = omega (arith, length-append (zeros 31) (zeros 824), length-zeros 31, length-zeros 824)
+  room_long : length (mid_of at (at + ROOM - at) s) ≡ ROOM
+  room_long = simp (length-take, length-drop) (omega arith)
 
-  cleared : sets s at (replicate ROOM 0) ≡ placed (zeros 31 ++ zeros 824) s at
-  unfolding zeros
-  cleared = sets-eq (replicate ROOM 0) s at (omega (arith, length-replicate {A = ℕ} ROOM 0))
+  module _ {z : List ℕ} (c : z ≡ replicate (length (mid_of at (at + ROOM - at) s)) 0) where
+    cleared : z ≡ replicate ROOM 0
+    cleared = c ∙ ap (λ (m : ℕ). replicate m 0) room_long
 
-  module _ {s₁ : List ℕ} (c : s₁ ≡ sets s at (replicate ROOM 0)) where
-    lent : mid_of (at + 31) (at + ROOM - (at + 31)) s₁ ≡ zeros 824
-    lent =
-        let n : at + ROOM - (at + 31) ≡ 824 = omega arith in
-        ap (λ (l : List ℕ). part (at + 31) (at + ROOM - (at + 31)) l) (c ∙ cleared)
-        ∙ ap (λ (m : ℕ). part (at + 31) m (placed (zeros 31 ++ zeros 824) s at)) n
-        ∙ part_placed s (zeros 31 ++ zeros 824) at cleared_fits 31 824 (omega (arith, length-append (zeros 31) (zeros 824), length-zeros 31, length-zeros 824))
-        ∙ ap (take 824) (drop_at (zeros 31) (zeros 824) 31 (length-zeros 31))
-        ∙ take_all 824 (zeros 824) (omega (arith, length-zeros 824))
+    lent : mid_of 31 (length z - 31) z ≡ zeros 824
+    unfolding zeros
+    lent = ap (λ (l : List ℕ). mid_of 31 (length l - 31) l) cleared
 
-    back : (v : List ℕ) → length v ≡ 824 → put_mid (at + 31) (at + ROOM - (at + 31)) s₁ v ≡ placed (zeros 31 ++ v) s at
-    back v l =
-        let w : length s₁ ≡ length s = ap length c ∙ length-sets s at (replicate ROOM 0) in
-        lent_all (at + 31) (at + ROOM - (at + 31)) s₁ v (omega arith) (omega arith)
-        ∙ ap (λ (x : List ℕ). sets x (at + 31) v) (c ∙ cleared)
-        ∙ sets-placed s (zeros 31 ++ zeros 824) at cleared_fits 31 v (omega (arith, length-append (zeros 31) (zeros 824), length-zeros 31, length-zeros 824))
-        ∙ ap (λ (x : List ℕ). placed x s at)
-        (ap (λ (m : ℕ). sets (zeros 31 ++ zeros 824) m v) {x = 31} {y = length (zeros 31) + 0} (omega (arith, length-zeros 31))
-        ∙ sets_behind (zeros 31) (zeros 824) 0 v
-        ∙ ap (λ (x : List ℕ). zeros 31 ++ x) (put_all (zeros 824) v (omega (arith, length-zeros 824))))
+    back : (v : List ℕ) → put_mid 31 (length z - 31) z v ≡ zeros 31 ++ v
+    unfolding zeros
+    back v = ap (λ (l : List ℕ). put_mid 31 (length l - 31) l v) cleared ∙ ap (λ (l : List ℕ). replicate 31 0 ++ l) (append-nil v)
 
-    pub decoded-at : (f : List ℕ) {x y : Result ℕ KissError} {v : List ℕ} → (x, v) ≡ decoded f (mid_of (at + 31) (at + ROOM - (at + 31)) s₁) → x ≡ y
-        → (count_of y, put_mid (at + 31) (at + ROOM - (at + 31)) s₁ v) ≡ decoded_at f s at
+    pub decoded-at : (f : List ℕ) {n : ℕ} {x : Result ℕ KissError} {v : List ℕ} → (x, v) ≡ decoded f (mid_of 31 (length z - 31) z) → n ≡ result_unwrap_or x 0
+        → (n, put_mid at (at + ROOM - at) s (put_mid 31 (length z - 31) z v)) ≡ decoded_at f s at
     unfolding decoded_at
-    decoded-at f {x} {y} {v} p e =
+    decoded-at f {n} {x} {v} p e =
         let q = p ∙ ap (decoded f) lent in
-        let l : length v ≡ 824 = ap (λ (z : Result ℕ KissError × List ℕ). length z.1) q ∙ (in_room f (zeros 824)).0 ∙ length-zeros 824 in
-        ap (λ (z : Result ℕ KissError). (count_of z, put_mid (at + 31) (at + ROOM - (at + 31)) s₁ v)) (sym e)
-        ∙ ap (λ (z : List ℕ). (count_of x, z)) (back v l)
-        ∙ ap (λ (z : Result ℕ KissError × List ℕ). (count_of z.0, placed (zeros 31 ++ z.1) s at)) q
+        let l : length v ≡ 824 = ap (λ (y : Result ℕ KissError × List ℕ). length y.1) q ∙ (in_room f (zeros 824)).0 ∙ length-zeros 824 in
+        let k : length (zeros 31 ++ v) ≡ at + ROOM - at = omega (arith, length-append (zeros 31) v, length-zeros 31, l) in
+        (λ t. ((e ∙ count_is x) t, (ap (put_mid at (at + ROOM - at) s) (back v) ∙ lent_placed at (at + ROOM - at) s (zeros 31 ++ v) k) t))
+        ∙ ap (λ (y : Result ℕ KissError × List ℕ). (count_of y.0, placed (zeros 31 ++ y.1) s at)) q
 
 -- the LSF and the type byte
 abbrev headed : List ℕ
@@ -131,19 +118,23 @@ from_type s at h =
     ∙ ap (λ (m : ℕ). RAW ∷ drop (at + m) s) headed_length
 
 -- the LSF, the type byte and the CRC are written around the payload
-pub sealed-at : (s : List ℕ) (at n : ℕ) → at + ROOM ≤ length s → {l s₁ : List ℕ} {x : ℕ} → l ≡ basic_lsf → s₁ ≡ sets s at l
-    → x ≡ crc_of (part (at + 30) (at + 30 + 1 + n - (at + 30)) (set s₁ (at + 30) RAW))
-    → set (set (set s₁ (at + 30) RAW) (at + 30 + 1 + n) (x / 256)) (at + 30 + 1 + n + 1) (x % 256) ≡ sealed_at s at n
+pub sealed-at : (s : List ℕ) (at n : ℕ) → at + ROOM ≤ length s → n ≤ 822 → {l c : List ℕ} {x : ℕ} → l ≡ basic_lsf
+    → x ≡ crc_of (part (at + 30) (at + 30 + 1 + n - (at + 30)) (set (put_mid at (at + 30 - at) s l) (at + 30) RAW)) → c ≡ two_bytes x
+    → put_mid (at + 30 + 1 + n) (at + 30 + 1 + n + 2 - (at + 30 + 1 + n)) (set (put_mid at (at + 30 - at) s l) (at + 30) RAW) c ≡ sealed_at s at n
 unfolding sealed_at
-sealed-at s at n h {l} {s₁} {x} e f g =
-    let typed : set s₁ (at + 30) RAW ≡ sets s at headed =
-    ap (λ (y : List ℕ). set y (at + 30) RAW) (f ∙ ap (sets s at) e) ∙ ap (λ (m : ℕ). set (sets s at basic_lsf) (at + m) RAW) (sym basic_lsf_length) ∙ sym (sets_append s at basic_lsf (RAW ∷ [])) in
-    let covered : part (at + 30) (at + 30 + 1 + n - (at + 30)) (set s₁ (at + 30) RAW) ≡ RAW ∷ part (at + 31) n s =
-    ap (λ (m : ℕ). part (at + 30) m (set s₁ (at + 30) RAW)) {x = at + 30 + 1 + n - (at + 30)} {y = suc n} (omega arith) ∙ ap (take (suc n)) (ap (drop (at + 30)) typed ∙ from_type s at h) in
-    ap (λ (b : List ℕ). set (set b (at + 30 + 1 + n) (x / 256)) (at + 30 + 1 + n + 1) (x % 256)) typed
-    ∙ ap (λ (m : ℕ). set (set (sets s at headed) m (x / 256)) (m + 1) (x % 256)) {x = at + 30 + 1 + n} {y = at + 31 + n} (omega arith)
-    ∙ ap (λ (m : ℕ). set (set (sets s at headed) (at + 31 + n) (x / 256)) m (x % 256)) (add-one (at + 31 + n))
-    ∙ ap (λ (y : ℕ). sets (sets s at headed) (at + 31 + n) (two_bytes y)) (g ∙ ap crc_of covered)
+sealed-at s at n h k {l} {c} {x} e g w =
+    let front : put_mid at (at + 30 - at) s l ≡ sets s at basic_lsf =
+    lent_all at (at + 30 - at) s l (omega arith) (ap length e ∙ basic_lsf_length ∙ omega arith) ∙ ap (sets s at) e in
+    let typed : set (put_mid at (at + 30 - at) s l) (at + 30) RAW ≡ sets s at headed =
+    ap (λ (y : List ℕ). set y (at + 30) RAW) front ∙ ap (λ (m : ℕ). set (sets s at basic_lsf) (at + m) RAW) (sym basic_lsf_length) ∙ sym (sets_append s at basic_lsf (RAW ∷ [])) in
+    let covered : part (at + 30) (at + 30 + 1 + n - (at + 30)) (set (put_mid at (at + 30 - at) s l) (at + 30) RAW) ≡ RAW ∷ part (at + 31) n s =
+    ap (λ (m : ℕ). part (at + 30) m (set (put_mid at (at + 30 - at) s l) (at + 30) RAW)) {x = at + 30 + 1 + n - (at + 30)} {y = suc n} (omega arith)
+    ∙ ap (take (suc n)) (ap (drop (at + 30)) typed ∙ from_type s at h) in
+    let two : length c ≡ at + 30 + 1 + n + 2 - (at + 30 + 1 + n) = ap length w ∙ omega arith in
+    ap (λ (b : List ℕ). put_mid (at + 30 + 1 + n) (at + 30 + 1 + n + 2 - (at + 30 + 1 + n)) b c) typed
+    ∙ lent_all (at + 30 + 1 + n) (at + 30 + 1 + n + 2 - (at + 30 + 1 + n)) (sets s at headed) c (omega (arith, length-sets s at headed)) two
+    ∙ ap (λ (m : ℕ). sets (sets s at headed) m c) {x = at + 30 + 1 + n} {y = at + 31 + n} (omega arith)
+    ∙ ap (sets (sets s at headed) (at + 31 + n)) (w ∙ ap two_bytes (g ∙ ap crc_of covered))
 
 -- and with that the room is a port 0 packet's
 pub sealed_room : (s d : List ℕ) (at n : ℕ) → at + ROOM ≤ length s → length d ≡ 824 → n ≤ 822 → sealed_at (placed (zeros 31 ++ d) s at) at n ≡ placed (basic_room n d) s at
@@ -188,12 +179,14 @@ module _ (f s : List ℕ) (at : ℕ) {n : ℕ} {s₁ : List ℕ} (e : (n, s₁) 
     decoded-keeps = ap length decoded-left ∙ placed-length (zeros 31 ++ (decoded f (zeros 824)).1) s at (omega (arith, long))
 
     -- too long: cleared again
-    pub cleared_again : {a : Result (Unit {0}) NoRoom} {s₂ : List ℕ} → (a, s₂) ≡ copied (replicate ROOM 0) s₁ at → s₂ ≡ placed (zeros ROOM) s at
+    pub cleared_again : {z : List ℕ} → z ≡ replicate (length (mid_of at (at + ROOM - at) s₁)) 0 → put_mid at (at + ROOM - at) s₁ z ≡ placed (zeros ROOM) s at
     unfolding zeros
-    cleared_again p =
+    cleared_again {z} c =
         let r = zeros 31 ++ (decoded f (zeros 824)).1 in
         let w : length (zeros ROOM) ≡ ROOM = length-zeros ROOM in
-        copied_in (zeros ROOM) s₁ at p (omega (arith, w, decoded-keeps))
+        let g : at + ROOM ≤ length s₁ = omega (arith, decoded-keeps) in
+        ap (put_mid at (at + ROOM - at) s₁) (cleared s₁ at g c)
+        ∙ lent_all at (at + ROOM - at) s₁ (zeros ROOM) (omega arith) (w ∙ omega arith)
         ∙ ap (λ (x : List ℕ). sets x at (zeros ROOM)) decoded-left
         ∙ replaced s r at (omega (arith, long)) (zeros ROOM) (w ∙ sym long)
 

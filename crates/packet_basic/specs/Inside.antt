@@ -1,19 +1,14 @@
 -- What the pushes' inner functions leave. From no document: no promise rests on these. Assumes nothing.
-use Rattle.std.specs.Prelude.{ℕ, ◌+◌, Bool, true, false, List, [], ◌∷◌, ◌++◌, Result, Ok, Err}
+use Rattle.std.specs.Prelude.{ℕ, ◌+◌, List, [], ◌∷◌, ◌++◌}
 use Rattle.std.proofs.lemmas.List.Edits.{sets}
 use Rattle.room.specs.Room.{placed}
 use Rattle.crc.specs.Crc.{crc_of, two_bytes}
 use Rattle.protocol.specs.Lsf.{part}
 use Rattle.protocol.specs.Basic.{basic_lsf}
-use Rattle.kiss_layout.specs.declared.KissError.{KissError}
 use Rattle.kiss_layout.specs.Read.{decoded}
 use Rattle.packets.specs.Frames.{zeros}
 use Rattle.packets.specs.Queue.{RAW}
 use Rattle.packets.specs.Inside.{count_of}
-
-abbrev pub is_payload : Result ℕ KissError → Bool
-is_payload (Ok n) = true
-is_payload (Err e) = false
 
 -- how many bytes were decoded, and the store with the room at `at` cleared and decoded into from its byte 31 on
 unfoldable pub decoded_at : List ℕ → List ℕ → ℕ → ℕ × List ℕ

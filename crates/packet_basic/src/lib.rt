@@ -1,17 +1,16 @@
 // The push of a data frame of port 0, behind `packets`, which has the record and the definitions: its content becomes a packet that waits.
 #![tactic(auto)]
 
-ghost use Rattle.std.specs.Prelude.{◌≡◌, ◌+◌, ◌≤◌, length};
+ghost use Rattle.std.specs.Prelude.{◌≡◌, ◌+◌, ◌≤◌, is_ok, length};
 ghost use Rattle.kiss_layout.specs.Read.{decoded};
 ghost use Rattle.packets.specs.Frames.{zeros};
 ghost use Rattle.packets.specs.Queue.{ROOM, pushed_basic};
-ghost use Rattle.packet_basic.specs.Inside.{is_payload, decoded_at, sealed_at};
+ghost use Rattle.packet_basic.specs.Inside.{decoded_at, sealed_at};
 
-use kiss_layout::{KissError, PushError};
+use kiss_layout::PushError;
 use kiss_read::decode_payload;
 use packet_push::accepted;
 use packets::{PacketQueue, Push, Pushed, ROOM_LEN, STORE_LEN};
-use protocol::LsfFrame;
 
 // What a packet of port 0 leaves of its data for the payload: without the type byte and the CRC.
 const MAX_BASIC_LEN: usize = 822;
@@ -24,45 +23,48 @@ pub fn push_basic(queue: PacketQueue, frame: &[u8], store: &mut [u8]) -> Pushed
     ensures { (result, store.new) ≡ pushed_basic queue frame.now store.old }
 {
     if store.len() != STORE_LEN {
-        return answered(queue, Err(PushError::WrongStore));
+        return Pushed {
+            answer: Err(PushError::WrongStore),
+            queue,
+        };
     }
     if !queue.is_sound() {
-        return answered(queue, Err(PushError::OutOfBounds));
+        return Pushed {
+            answer: Err(PushError::OutOfBounds),
+            queue,
+        };
     }
     if queue.full {
-        return answered(queue, Ok(Push::Ignored));
+        return Pushed {
+            answer: Ok(Push::Ignored),
+            queue,
+        };
     }
     if !has_payload(frame) {
-        return answered(queue, Err(PushError::MalformedKissFrame));
+        return Pushed {
+            answer: Err(PushError::MalformedKissFrame),
+            queue,
+        };
     }
     let room = ROOM_LEN * queue.next;
     let n = decode_into(frame, store, room);
     if MAX_BASIC_LEN < n {
-        store::copy_in(&[0u8; 855], store, room);
-        return answered(queue, Ok(Push::Ignored));
+        store[room..room + ROOM_LEN].fill(0);
+        return Pushed {
+            answer: Ok(Push::Ignored),
+            queue,
+        };
     }
     seal(store, room, n);
     accepted(queue, n + 3)
 }
 
-fn answered(queue: PacketQueue, answer: Result<Push, PushError>) -> Pushed
-    ensures { result ≡ record { answer = answer; queue = queue } }
-{
-    Pushed {
-        answer: answer,
-        queue: queue,
-    }
-}
-
 // The frame holds a header and a FEND behind it. This is asked before anything of the store is touched.
 fn has_payload(frame: &[u8]) -> bool
-    ensures { result ≡ is_payload (decoded frame.now (zeros 1)).0 }
+    ensures { result ≡ is_ok (decoded frame.now (zeros 1)).0 }
 {
     let mut room = [0u8; 1];
-    match decode_payload(frame, &mut room) {
-        Ok(_) => true,
-        Err(KissError::MalformedKissFrame) => false,
-    }
+    decode_payload(frame, &mut room).is_ok()
 }
 
 // The room at `at` is cleared and the content decoded straight into it, behind the type byte. Returns how many bytes that counted.
@@ -70,13 +72,9 @@ fn decode_into(frame: &[u8], store: &mut [u8], at: usize) -> usize
     requires { at + ROOM ≤ length store.old }
     ensures { (result, store.new) ≡ decoded_at frame.now store.old at }
 {
-    store::copy_in(&[0u8; 855], store, at);
-    let from = at + 31;
-    let end = at + ROOM_LEN;
-    match decode_payload(frame, &mut store[from..end]) {
-        Ok(n) => n,
-        Err(KissError::MalformedKissFrame) => 0,
-    }
+    let room = &mut store[at..at + ROOM_LEN];
+    room.fill(0);
+    decode_payload(frame, &mut room[31..]).unwrap_or(0)
 }
 
 // The room at `at` holds n bytes of payload from its byte 31 on: before them come the LSF and the type byte, behind them the CRC.
@@ -84,12 +82,10 @@ fn seal(store: &mut [u8], at: usize, n: usize)
     requires { (at + ROOM ≤ length store.old) × (n ≤ 822) }
     ensures { store.new ≡ sealed_at store.old at n }
 {
-    let lsf = lsf_frame::packet_basic();
-    store::copy_in(&lsf.0, store, at);
     let from = at + 30;
+    store[at..from].copy_from_slice(&lsf_frame::packet_basic().0);
     store[from] = RAW;
     let end = from + 1 + n;
     let crc = crc::m17_crc(&store[from..end]);
-    store[end] = (crc / 256) as u8;
-    store[end + 1] = (crc % 256) as u8;
+    store[end..end + 2].copy_from_slice(&crc.to_be_bytes());
 }

@@ -1,6 +1,6 @@
 -- What a port 1 frame comes to, case by case, as the code meets the cases. Assumes nothing.
 use Prim.Native.Nat.{ℕ, ◌-◌, ◌≤◌, ◌<◌}
-use mathlib.Core.Path.{◌≡◌, sym, ap, ◌∙◌}
+use mathlib.Core.Path.{◌≡◌, refl, sym, ap, ◌∙◌}
 use mathlib.Core.List.{List}
 use borrow.Author.Tests.{eq-eqb, ne_eqb, le-leb, lt-leb}
 use lib.ListN.{take}
@@ -17,9 +17,13 @@ module _ (f : List ℕ) {x : Result ℕ KissError} {d : List ℕ} (e : (x, d) �
   unfolding made_full
   read_full p = ap (λ (z : Result ℕ KissError × List ℕ). full z.0 z.1) (sym e) ∙ ap (λ (z : Result ℕ KissError). full z d) p
 
-  pub full_malformed : {k : KissError} → x ≡ Err k → made_full f ≡ malformed
+  pub full_malformed : ((n : ℕ) → x ≡ Ok n → ⊥) → made_full f ≡ malformed
   unfolding full
-  full_malformed p = read_full p
+  full_malformed h = read_full refl ∙ no_count x h
+    where
+      no_count : (y : Result ℕ KissError) → ((n : ℕ) → y ≡ Ok n → ⊥) → full y d ≡ malformed
+      no_count (Ok n) g = absurd (g n refl)
+      no_count (Err k) g = refl
 
   module _ (n : ℕ) (p : x ≡ Ok n) where
     pub full_short : n < 33 → made_full f ≡ unfit

@@ -4,7 +4,7 @@
 ghost use Rattle.std.specs.Prelude.{◌≡◌};
 ghost use Rattle.packets.specs.Queue.{pushed_full};
 
-use kiss_layout::{KissError, PushError};
+use kiss_layout::PushError;
 use kiss_read::decode_payload;
 use packet_push::accepted;
 use packets::{PacketQueue, Push, Pushed, ROOM_LEN, STORE_LEN};
@@ -14,36 +14,43 @@ pub fn push_full(queue: PacketQueue, frame: &[u8], store: &mut [u8]) -> Pushed
     ensures { (result, store.new) ≡ pushed_full queue frame.now store.old }
 {
     if store.len() != STORE_LEN {
-        return answered(queue, Err(PushError::WrongStore));
+        return Pushed {
+            answer: Err(PushError::WrongStore),
+            queue,
+        };
     }
     if !queue.is_sound() {
-        return answered(queue, Err(PushError::OutOfBounds));
+        return Pushed {
+            answer: Err(PushError::OutOfBounds),
+            queue,
+        };
     }
     if queue.full {
-        return answered(queue, Ok(Push::Ignored));
+        return Pushed {
+            answer: Ok(Push::Ignored),
+            queue,
+        };
     }
-    let mut room = [0u8; 855];
-    let n = match decode_payload(frame, &mut room) {
-        Ok(n) => n,
-        Err(KissError::MalformedKissFrame) => {
-            return answered(queue, Err(PushError::MalformedKissFrame));
-        }
+    let mut room = [0u8; ROOM_LEN];
+    let Ok(n) = decode_payload(frame, &mut room) else {
+        return Pushed {
+            answer: Err(PushError::MalformedKissFrame),
+            queue,
+        };
     };
     if n < 33 {
-        return answered(queue, Ok(Push::Ignored));
+        return Pushed {
+            answer: Ok(Push::Ignored),
+            queue,
+        };
     }
     if crc::m17_crc(&room[..30]) != 0 {
-        return answered(queue, Ok(Push::Ignored));
+        return Pushed {
+            answer: Ok(Push::Ignored),
+            queue,
+        };
     }
-    store::copy_in(&room, store, ROOM_LEN * queue.next);
+    let at = ROOM_LEN * queue.next;
+    store[at..at + ROOM_LEN].copy_from_slice(&room);
     accepted(queue, n - 30)
-}
-
-fn answered(queue: PacketQueue, answer: Result<Push, PushError>) -> Pushed
-    ensures { result ≡ record { answer = answer; queue = queue } }
-{
-    Pushed {
-        answer: answer,
-        queue: queue,
-    }
 }

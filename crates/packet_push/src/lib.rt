@@ -1,5 +1,5 @@
 // What both pushes of the packet queue end with, behind `packets`, which has the record and the definitions.
-#![tactic(auto)]
+#![tactic(auto, unfolding(crate::specs::Accepted::accepted_as, packets::specs::Queue::with_packet, choice::specs::Pick::pick))]
 
 ghost use Rattle.std.specs.Prelude.{◌≡◌};
 ghost use Rattle.packet_push.specs.Accepted.{accepted_as};
@@ -15,19 +15,19 @@ pub fn accepted(mut queue: PacketQueue, len: usize) -> Pushed
     if 4 <= at {
         return Pushed {
             answer: Err(PushError::OutOfBounds),
-            queue: queue,
+            queue,
         };
     }
     let next = (at + 1) % 4;
     queue.places[at] = Place {
         due: true,
-        len: len,
+        len,
         sent: 0,
     };
     queue.next = next;
     queue.full = next == queue.curr;
     Pushed {
         answer: Ok(Push::Queued),
-        queue: queue,
+        queue,
     }
 }

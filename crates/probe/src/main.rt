@@ -194,6 +194,7 @@ fn read_step(
         34 => {
             let next = kiss_next::next_frame(*reader, store);
             *reader = next.buffer;
+            // A room that the frame does not fit stays: `copy_in` and not `copy_from_slice`, as requests ask for any room.
             let _ = store::copy_in(kiss_sound::frame(next.buffer, store), room, 0);
             Ok(next.answer?.unwrap_or(0))
         }

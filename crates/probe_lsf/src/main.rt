@@ -3,79 +3,65 @@
 // thirty bytes, the LSF or in front its meta field, else zero. A request that is cut ends the program.
 #![tactic(auto)]
 
-use lich::{Assembled, LichCollection, LichError, SegmentSet};
+use lich::LichCollection;
 use protocol::{DataType, EncryptionType, LsfFrame, Mode};
 use std::io;
 use std::io::{Read, Write};
 
-// An answer is one number: document 01's number times 65536, and the value.
-const OUT_OF_RANGE: usize = 6 * 65536;
-
-const OUT_OF_BOUNDS: usize = 8 * 65536;
-
-// The collection, which lasts from one request to the next, and the last answer.
-#[derive(Clone, Copy)]
-struct Session {
-    lich: LichCollection,
-    answer: usize,
-    bytes: [u8; 30],
-    going: bool,
-}
+// What an answer tells before its thirty bytes: a value, or document 01's number of what is refused.
+type Told = Result<usize, u8>;
 
 fn main(rt: HostRuntime) {
     let mut source = rt.stdin();
     let mut target = rt.stdout();
-    let mut s = told(LichCollection::new(), 0, [0u8; 30]);
+    let mut lich = LichCollection::new();
     for _ in 0..u64::MAX {
-        s = turn(s, &mut source, &mut target);
-        if !s.going {
+        let Some(after) = turn(lich, &mut source, &mut target) else {
             return;
-        }
+        };
+        lich = after;
     }
 }
 
-fn told(lich: LichCollection, answer: usize, bytes: [u8; 30]) -> Session {
-    Session {
-        lich: lich,
-        answer: answer,
-        bytes: bytes,
-        going: true,
-    }
-}
-
-fn turn<R: Read, W: Write>(mut s: Session, source: &mut R, target: &mut W) -> Session {
+// The collection after the next request, if it was all there and its answer was written. Nothing is read behind a head that is cut.
+fn turn<R: Read, W: Write>(
+    mut lich: LichCollection,
+    source: &mut R,
+    target: &mut W,
+) -> Option<LichCollection> {
     let mut head = [0u8; 2];
     let mut bytes = [0u8; 30];
-    // Nothing is read behind a head that is cut.
-    s.going = source.read_exact(&mut head).is_ok() && source.read_exact(&mut bytes).is_ok();
-    if !s.going {
-        return s;
-    }
-    let mut t = ask(head[0], head[1], bytes, s.lich);
-    let out = t.bytes;
-    t.going = wrote(target, t.answer, out).is_ok();
-    t
+    source.read_exact(&mut head).ok()?;
+    source.read_exact(&mut bytes).ok()?;
+    let [kind, v] = head;
+    let answer = ask(kind, v, &mut bytes, &mut lich);
+    wrote(target, answer, &bytes).ok()?;
+    Some(lich)
 }
 
-fn wrote<W: Write>(target: &mut W, answer: usize, bytes: [u8; 30]) -> io::Result<()> {
-    let start = [
-        (answer / 65536 % 256) as u8,
-        (answer / 256 % 256) as u8,
-        (answer % 256) as u8,
-    ];
-    target.write_all(&start)?;
-    target.write_all(&bytes)
+fn wrote<W: Write>(target: &mut W, answer: Told, bytes: &[u8]) -> io::Result<()> {
+    let (number, value) = match answer {
+        Ok(value) => (0, value),
+        Err(number) => (number, 0),
+    };
+    let [high, low] = ((value % 65536) as u16).to_be_bytes();
+    target.write_all(&[number, high, low])?;
+    target.write_all(bytes)
 }
 
-fn ask(kind: u8, v: u8, bytes: [u8; 30], lich: LichCollection) -> Session {
-    if 48 <= kind {
-        return lich_step(kind, v, bytes, lich);
+// The request's bytes become the answer's.
+fn ask(kind: u8, v: u8, bytes: &mut [u8; 30], lich: &mut LichCollection) -> Told {
+    let request = *bytes;
+    *bytes = [0u8; 30];
+    match kind {
+        0..=20 => Ok(lsf_number(kind, LsfFrame(request))),
+        21..=47 => {
+            let after = lsf_set(kind, v, LsfFrame(request));
+            bytes.copy_from_slice(&after.0);
+            Ok(0)
+        }
+        _ => lich_step(kind, v, request, bytes, lich),
     }
-    let f = LsfFrame(bytes);
-    if kind < 21 {
-        return told(lich, lsf_number(kind, f), [0u8; 30]);
-    }
-    told(lich, 0, lsf_set(kind, v, f).0)
 }
 
 fn lsf_number(kind: u8, f: LsfFrame) -> usize {
@@ -114,44 +100,32 @@ fn meta(f: LsfFrame) -> [u8; 30] {
 }
 
 // A new collection, a segment set, how many were heard, or the LSF, with value 30, where all were.
-fn lich_step(kind: u8, index: u8, bytes: [u8; 30], lich: LichCollection) -> Session {
+fn lich_step(
+    kind: u8,
+    index: u8,
+    request: [u8; 30],
+    bytes: &mut [u8; 30],
+    lich: &mut LichCollection,
+) -> Told {
     match kind {
-        48 => return told(LichCollection::new(), 0, [0u8; 30]),
+        48 => {
+            *lich = LichCollection::new();
+            Ok(0)
+        }
         49 => {
-            let part = [bytes[0], bytes[1], bytes[2], bytes[3], bytes[4]];
-            let set = lich.set_segment(index, part);
-            return told(set.collection, segment_number(set), [0u8; 30]);
+            let [a, b, c, d, e, ..] = request;
+            let set = lich.set_segment(index, [a, b, c, d, e]);
+            *lich = set.collection;
+            set.answer?;
+            Ok(0)
         }
-        50 => return told(lich, heard(lich), [0u8; 30]),
+        50 => Ok(lich.valid_segments()?),
         _ => {
-            let r = lich.try_assemble();
-            let all = r.bytes;
-            return told(lich, assembled(r), all);
+            let Some(lsf) = lich.try_assemble()? else {
+                return Ok(0);
+            };
+            bytes.copy_from_slice(&lsf);
+            Ok(30)
         }
-    }
-}
-
-fn segment_number(set: SegmentSet) -> usize {
-    let answer = set.answer;
-    match answer {
-        Ok(()) => 0,
-        Err(LichError::IndexOver5) => OUT_OF_RANGE,
-        Err(LichError::OutOfBounds) => OUT_OF_BOUNDS,
-    }
-}
-
-fn heard(lich: LichCollection) -> usize {
-    match lich.valid_segments() {
-        Ok(k) => k,
-        Err(LichError::OutOfBounds) => OUT_OF_BOUNDS,
-    }
-}
-
-fn assembled(r: Assembled) -> usize {
-    let answer = r.answer;
-    match answer {
-        Assembly::Whole => 30,
-        Ok(None) => 0,
-        Err(LichError::OutOfBounds) => OUT_OF_BOUNDS,
     }
 }

@@ -4,7 +4,7 @@
 ghost use Rattle.std.specs.Prelude.{true, ◌≡◌, length};
 ghost use Rattle.streams.specs.Queue.{STORE, sound_queue, data_pushed, lsf_pushed, pushed};
 
-use kiss_layout::{KissError, PushError};
+use kiss_layout::PushError;
 use kiss_read::decode_payload;
 use protocol::LsfFrame;
 use stream_bytes::frame_bytes;
@@ -19,22 +19,34 @@ const MIN_DATA_LEN: usize = MAX_IGNORED_LEN + 1;
 pub fn push(queue: StreamQueue, frame: &[u8], store: &mut [u8]) -> StreamPushed
     ensures { (result, store.new) ≡ pushed queue frame.now store.old }
 {
+    // Tried: an array by `try_from`, lent on to the calls below: the proofs of what stands in the store at each end ran for minutes and did not close.
     if store.len() != STREAM_STORE_LEN {
-        return unchanged(Err(PushError::WrongStore), queue);
+        return StreamPushed {
+            answer: Err(PushError::WrongStore),
+            queue,
+        };
     }
     if !queue.is_sound() {
-        return unchanged(Err(PushError::OutOfBounds), queue);
+        return StreamPushed {
+            answer: Err(PushError::OutOfBounds),
+            queue,
+        };
     }
     let mut payload = [0u8; 30];
-    let decoded = decode_payload(frame, &mut payload);
-    match decoded {
-        Err(KissError::MalformedKissFrame) => unchanged(Err(PushError::MalformedKissFrame), queue),
-        Ok(n) => match n {
-            0..=MAX_IGNORED_LEN => unchanged(Ok(StreamPush::Ignored), queue),
-            MIN_DATA_LEN..=29 => push_data(queue, payload, store),
-            // 30: the room has no more, and longer payloads are cut to it.
-            _ => push_lsf(queue, payload, store),
+    let Ok(n) = decode_payload(frame, &mut payload) else {
+        return StreamPushed {
+            answer: Err(PushError::MalformedKissFrame),
+            queue,
+        };
+    };
+    match n {
+        0..=MAX_IGNORED_LEN => StreamPushed {
+            answer: Ok(StreamPush::Ignored),
+            queue,
         },
+        MIN_DATA_LEN..=29 => push_data(queue, payload, store),
+        // 30: the room has no more, and longer payloads are cut to it.
+        _ => push_lsf(queue, payload, store),
     }
 }
 
@@ -44,17 +56,18 @@ fn push_data(mut queue: StreamQueue, payload: [u8; 30], store: &mut [u8]) -> Str
     ensures { (result, store.new) ≡ data_pushed queue payload store.old }
 {
     if queue.full {
-        return unchanged(Ok(StreamPush::Ignored), queue);
+        return StreamPushed {
+            answer: Ok(StreamPush::Ignored),
+            queue,
+        };
     }
-    let next = queue.next;
-    let bytes = frame_bytes(payload);
-    store::copy_in(&bytes, store, FRAME_LEN * next);
-    let after = (next + 1) % PLACES;
-    queue.full = after == queue.curr;
-    queue.next = after;
+    let at = FRAME_LEN * queue.next;
+    store[at..at + FRAME_LEN].copy_from_slice(&frame_bytes(payload));
+    queue.next = (queue.next + 1) % PLACES;
+    queue.full = queue.next == queue.curr;
     StreamPushed {
         answer: Ok(StreamPush::Queued),
-        queue: queue,
+        queue,
     }
 }
 
@@ -64,21 +77,15 @@ fn push_lsf(mut queue: StreamQueue, payload: [u8; 30], store: &mut [u8]) -> Stre
     ensures { (result, store.new) ≡ lsf_pushed queue payload store.old }
 {
     if lsf_frame::check_crc(LsfFrame(payload)) != 0 {
-        return unchanged(Ok(StreamPush::Ignored), queue);
+        return StreamPushed {
+            answer: Ok(StreamPush::Ignored),
+            queue,
+        };
     }
-    store::copy_in(&payload, store, LSF_AT);
+    store[LSF_AT..STREAM_STORE_LEN].copy_from_slice(&payload);
     queue.pending = true;
     StreamPushed {
         answer: Ok(StreamPush::LsfPending),
-        queue: queue,
-    }
-}
-
-fn unchanged(answer: Result<StreamPush, PushError>, queue: StreamQueue) -> StreamPushed
-    ensures { result ≡ record { answer = answer; queue = queue } }
-{
-    StreamPushed {
-        answer: answer,
-        queue: queue,
+        queue,
     }
 }

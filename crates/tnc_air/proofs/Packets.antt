@@ -1,15 +1,12 @@
 -- The cases of a packet's frames: each from the tests on the way to it. Assumes nothing.
 use Prim.Native.Nat.{ℕ, ◌≤◌, ◌<◌}
-use types.Run.{OneOf, miss}
-use denote.Enum.Declared.{tag_of}
-use mathlib.Core.Path.{◌≡◌, refl, sym, ap, ◌∙◌}
-use mathlib.Core.List.{List, [], ◌∷◌}
+use mathlib.Core.Path.{◌≡◌, sym, ap, ◌∙◌}
+use mathlib.Core.List.{List}
 use borrow.Author.Tests.{lt-ltb, le-ltb}
 use mathlib.Core.Bool.{true}
 use Rattle.choice.specs.Pick.{pick, and_fst}
 use Rattle.state.specs.declared.Reception.{Reception}
-use Rattle.state.specs.declared.Reception.TheVariants.{Nothing, Acquiring as Segments, Stream as InStream, Packet as InPacket}
-use Rattle.state.specs.contracts.Reception.{the_type}
+use Rattle.state.specs.declared.Reception.TheVariants.{Packet as InPacket}
 use Rattle.state.proofs.Bounds.{count_bound}
 use Rattle.state.specs.State.{reception_of}
 use Rattle.radio.specs.declared.Radio.{Radio}
@@ -17,26 +14,11 @@ use Rattle.std.specs.Prelude.{Err}
 use Rattle.radio.specs.declared.AirError.TheVariants.{OutOfRange as TooLarge}
 use Rattle.radio.specs.declared.Heard.{Heard}
 use Rattle.radio.specs.Radio.{sound_radio, answered}
-use Rattle.tnc_air.specs.Collected.{idle}
 use Rattle.tnc_air.specs.Heard.{collected_in, collected, finished_in, finished}
 
 -- what the reception that was found makes of a frame
 pub collected_as : (r : Radio) (index : ℕ) (payload rx : List ℕ) {k v : Reception} → k ≡ reception_of r.state → k ≡ v → collected_in v r index payload rx ≡ collected r index payload rx
 collected_as r index payload rx e t = ap (λ (m : Reception). collected_in m r index payload rx) (sym t ∙ e)
-
--- where no packet is being received
-pub none-collected : (k : Reception) (r : Radio) (index : ℕ) (payload rx : List ℕ) → OneOf (0 ∷ 1 ∷ 2 ∷ []) (tag_of the_type k) → (idle r, rx) ≡ collected_in k r index payload rx
-none-collected Nothing r index payload rx h = refl
-none-collected (Segments mask) r index payload rx h = refl
-none-collected (InStream expected) r index payload rx h = refl
-none-collected (InPacket count) r index payload rx h = absurd (miss (0 ∷ 1 ∷ 2 ∷ []) 3 tt h)
-
-pub none-finished : (k : Reception) (r : Radio) (len : ℕ) (payload rx out : List ℕ) → OneOf (0 ∷ 1 ∷ 2 ∷ []) (tag_of the_type k)
-    → (idle r, rx, out) ≡ finished_in k r len payload rx out
-none-finished Nothing r len payload rx out h = refl
-none-finished (Segments mask) r len payload rx out h = refl
-none-finished (InStream expected) r len payload rx out h = refl
-none-finished (InPacket count) r len payload rx out h = absurd (miss (0 ∷ 1 ∷ 2 ∷ []) 3 tt h)
 
 module _ (r : Radio) (len : ℕ) (payload rx out : List ℕ) where
   pub too_long : {x : Heard} → x ≡ answered (Err TooLarge) r → 25 < len → (x, rx, out) ≡ finished r len payload rx out

@@ -18,19 +18,21 @@ use state::{Reception, State};
 pub fn handle_packet(radio: Radio, frame: PacketFrame, rx: &mut [u8], out: &mut [u8]) -> Heard
     ensures { (result, rx.new, out.new) ≡ packet_heard radio frame rx.old out.old }
 {
-    let payload = frame.payload;
-    let counter = frame.counter;
     match hears(radio, rx.len(), out.len()) {
-        Hears::Answer(answer) => return Heard {
-            answer: answer,
-            radio: radio,
+        Err(error) => Heard {
+            answer: Err(error),
+            radio,
         },
-        Hears::Frame => match counter {
-            PacketFrameCounter::Frame { index } => return collect(radio, index, payload, rx),
-            PacketFrameCounter::FinalFrame { payload_len } => return finish(
+        Ok(false) => Heard {
+            answer: Ok(()),
+            radio,
+        },
+        Ok(true) => match frame.counter {
+            PacketFrameCounter::Frame { index } => collect(radio, index, frame.payload, rx),
+            PacketFrameCounter::FinalFrame { payload_len } => finish(
                 radio,
                 payload_len,
-                payload,
+                frame.payload,
                 rx,
                 out,
             ),
@@ -43,10 +45,9 @@ fn collect(radio: Radio, index: usize, payload: [u8; 25], rx: &mut [u8]) -> Hear
     requires { length rx.old ≡ RX }
     ensures { (result, rx.new) ≡ collected radio index payload rx.old }
 {
-    let state = radio.state;
-    match state.reception() {
-        Reception::Packet(count) => return collect_after(radio, count, index, payload, rx),
-        _ => return radio.turned(State::Idle),
+    match radio.state.reception() {
+        Reception::Packet(count) => collect_after(radio, count, index, payload, rx),
+        _ => radio.turned(State::Idle),
     }
 }
 
@@ -63,16 +64,14 @@ fn collect_after(
     if rx.len() != RX_STORE_LEN {
         return Heard {
             answer: Err(AirError::WrongStore),
-            radio: radio,
+            radio,
         };
     }
-    if index != count {
+    if index != count || 32 <= index {
         return radio.turned(State::Idle);
     }
-    if 32 <= index {
-        return radio.turned(State::Idle);
-    }
-    store::copy_in(&payload, rx, 30 + 25 * index);
+    let at = 30 + 25 * index;
+    rx[at..at + 25].copy_from_slice(&payload);
     radio.turned(State::RxPacket(index + 1))
 }
 
@@ -84,17 +83,16 @@ fn finish(radio: Radio, len: usize, payload: [u8; 25], rx: &mut [u8], out: &mut 
     if 25 < len {
         return Heard {
             answer: Err(AirError::OutOfRange),
-            radio: radio,
+            radio,
         };
     }
-    let state = radio.state;
-    match state.reception() {
+    match radio.state.reception() {
         Reception::Packet(count) => {
-            let before = 25 * count;
-            store::copy_in(&payload[..len], rx, 30 + before);
-            return tell_packet(rx, before + len, out);
+            let at = 30 + 25 * count;
+            rx[at..at + len].copy_from_slice(&payload[..len]);
+            tell_packet(rx, 25 * count + len, out)
         }
-        _ => return radio.turned(State::Idle),
+        _ => radio.turned(State::Idle),
     }
 }
 

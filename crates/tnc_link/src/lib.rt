@@ -118,6 +118,7 @@ impl TryFrom<StateNumbers> for State {
 
     ghost try_from_gives = { λ numbers state. state ≡ state_read numbers.kind numbers.value };
 
+    #[tactic(auto, using(choice::specs::Pick::tests), unfolding(crate::specs::Numbers::state_read, crate::specs::Numbers::valid_state, crate::specs::Numbers::state_of))]
     fn try_from(numbers: StateNumbers) -> Result<State, NoState> {
         let value = numbers.value;
         match numbers.kind {

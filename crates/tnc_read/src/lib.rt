@@ -1,13 +1,13 @@
 // The TNC's call for bytes to the host.
-#![tactic(auto)]
+#![tactic(auto, unfolding(crate::specs::Calls::tnc_read, outgoing::specs::Message::read_up_to, choice::specs::Pick::pick))]
 
 ghost use Rattle.std.specs.Prelude.{◌≡◌};
 ghost use Rattle.tnc_read.specs.Calls.{not_read, tnc_read};
 ghost use Rattle.outgoing.specs.Message.{read_up_to};
 
-use room::LentError;
 use outgoing::Outgoing;
 use radio::{MESSAGE_STORE_LEN, Radio};
+use room::LentError;
 use tnc_core::Tnc;
 
 #[derive(Clone, Copy)]
@@ -26,26 +26,29 @@ pub fn read_kiss(tnc: Tnc, message: &[u8], target: &mut [u8]) -> TncRead
     if !tnc.is_sound() {
         return not_read(LentError::OutOfBounds, tnc);
     }
-    let from = tnc.radio.outgoing.read;
-    let count = (tnc.radio.outgoing.len - from).min(target.len());
-    let end = from + count;
-    target[..count].copy_from_slice(&message[from..end]);
+    let Outgoing { len, read } = tnc.radio.outgoing;
+    let waiting = &message[read..len];
+    let count = waiting.len().min(target.len());
+    target[..count].copy_from_slice(&waiting[..count]);
     TncRead {
         answer: Ok(count),
-        tnc: tnc.with_radio(read_up_to(tnc.radio, end)),
+        tnc: tnc.with_radio(read_up_to(tnc.radio, read + count)),
     }
 }
 
 // A message that was read to its end is gone.
-fn read_up_to(mut radio: Radio, end: usize) -> Radio
+fn read_up_to(radio: Radio, end: usize) -> Radio
     ensures { result ≡ record { state = radio.state; outgoing = read_up_to radio.outgoing end } }
 {
-    if end == radio.outgoing.len {
-        radio.outgoing = Outgoing::new();
-        return radio;
-    }
-    radio.outgoing.read = end;
-    radio
+    let outgoing = if end == radio.outgoing.len {
+        Outgoing::new()
+    } else {
+        Outgoing {
+            read: end,
+            ..radio.outgoing
+        }
+    };
+    Radio { outgoing, ..radio }
 }
 
 fn not_read(error: LentError, tnc: Tnc) -> TncRead
@@ -53,6 +56,6 @@ fn not_read(error: LentError, tnc: Tnc) -> TncRead
 {
     TncRead {
         answer: Err(error),
-        tnc: tnc,
+        tnc,
     }
 }

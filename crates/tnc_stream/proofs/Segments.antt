@@ -1,17 +1,13 @@
 -- LICH acquisition: a frame's segment in a collection. Assumes nothing.
 use Prim.Native.Nat.{ℕ, ◌*◌, ◌≤◌, ◌<◌}
-use mathlib.Core.Path.{◌≡◌, refl, ap, ◌∙◌}
-use mathlib.Core.List.{List}
+use mathlib.Core.Path.{◌≡◌, refl, sym, ap, ◌∙◌}
+use mathlib.Core.List.{List, ◌++◌}
 use native.Mathlib.Omega.{arith}
 use borrow.Author.Tests.{lt-leb, le-ltb}
-use lib.ListN.{length}
+use lib.ListN.{length, drop}
 use Rattle.choice.specs.Pick.{pick}
-use Rattle.std.specs.Prelude.{Result}
-use Rattle.room.specs.declared.NoRoom.{NoRoom}
-use Rattle.room.specs.Room.{over, copied}
+use Rattle.room.specs.Room.{over}
 use Rattle.room.proofs.Places.{placed-length}
-use Rattle.room.proofs.Copies.{copied_in}
-use Rattle.room.proofs.Runs.{put_front}
 use Rattle.protocol.specs.declared.StreamFrame.{StreamFrame}
 use Rattle.lich.specs.declared.LichCollection.{LichCollection}
 use Rattle.lich.specs.declared.SegmentSet.{SegmentSet}
@@ -19,7 +15,6 @@ use Rattle.lich.specs.Lich.{new_collection, with_segment, segment_set}
 use Rattle.lich.proofs.Masks.{stays_small}
 use Rattle.radio.specs.declared.Radio.{Radio}
 use Rattle.radio.specs.declared.Heard.{Heard}
-use Rattle.radio.specs.Radio.{RX}
 use Rattle.tnc_stream.specs.Restarted.{with_frame, collecting, restarted}
 
 module _ (f : StreamFrame) (c : LichCollection) (i : f.lich_idx ≤ 5) where
@@ -36,14 +31,14 @@ module _ (f : StreamFrame) (c : LichCollection) (i : f.lich_idx ≤ 5) where
   frame_thirty p n = placed-length f.lich_part c.segments (5 * f.lich_idx) (omega (arith, i, p, n)) ∙ n
 
 -- segments over the store's start
-pub segments_in : (s rx last : List ℕ) {k : (Result (Unit {0}) NoRoom)} → length s ≡ 30 → length rx ≡ RX → (k, last) ≡ copied s rx 0 → last ≡ over s rx
-segments_in s rx last n full e = let fit : length s ≤ length rx = omega (arith, n, full) in copied_in s rx 0 e (omega (arith, fit)) ∙ put_front rx s fit
+pub segments_in : (s rx : List ℕ) {v : List ℕ} → length s ≡ 30 → v ≡ s → v ++ drop 30 rx ≡ over s rx
+segments_in s rx n e = ap (λ (x : List ℕ). x ++ drop 30 rx) e ∙ ap (λ (k : ℕ). s ++ drop k rx) (sym n)
 
 -- acquisition restarts
-pub restart_is : (r : Radio) (f : StreamFrame) (rx : List ℕ) → f.lich_idx ≤ 5 → length f.lich_part ≡ 5 → length rx ≡ RX → {s : SegmentSet} {h : Heard} {k : (Result (Unit {0}) NoRoom)} {last : List ℕ}
-    → s ≡ segment_set new_collection f.lich_idx f.lich_part → h ≡ collecting r s.collection → (k, last) ≡ copied s.collection.segments rx 0 → (h, last) ≡ restarted r f rx
+pub restart_is : (r : Radio) (f : StreamFrame) (rx : List ℕ) → f.lich_idx ≤ 5 → length f.lich_part ≡ 5 → {s : SegmentSet} {h : Heard} {v : List ℕ}
+    → s ≡ segment_set new_collection f.lich_idx f.lich_part → h ≡ collecting r s.collection → v ≡ s.collection.segments → (h, v ++ drop 30 rx) ≡ restarted r f rx
 unfolding restarted
-restart_is r f rx i five full {s = s} {last = last} e q p =
+restart_is r f rx i five {s = s} e q p =
     let c = frame-set f new_collection i e (omega arith) in
-    let w = segments_in s.collection.segments rx last (ap (λ (k : LichCollection). length k.segments) c ∙ frame_thirty f new_collection i five refl) full p in
+    let w = segments_in s.collection.segments rx (ap (λ (k : LichCollection). length k.segments) c ∙ frame_thirty f new_collection i five refl) p in
     (λ t. (q t, w t)) ∙ ap (λ (k : LichCollection). (collecting r k, over k.segments rx)) c

@@ -22,29 +22,25 @@ pub fn handle_stream(radio: Radio, frame: StreamFrame, rx: &mut [u8], out: &mut 
     ensures { (result, rx.new, out.new) ≡ stream_heard radio frame rx.old out.old }
 {
     match hears(radio, rx.len(), out.len()) {
-        Hears::Answer(answer) => return Heard {
-            answer: answer,
-            radio: radio,
+        Err(error) => Heard {
+            answer: Err(error),
+            radio,
         },
-        Hears::Frame => {
-            if 5 < frame.lich_idx {
+        Ok(false) => Heard {
+            answer: Ok(()),
+            radio,
+        },
+        Ok(true) => {
+            if 5 < frame.lich_idx || 32767 < frame.frame_number {
                 return Heard {
                     answer: Err(AirError::OutOfRange),
-                    radio: radio,
+                    radio,
                 };
             }
-            if 32767 < frame.frame_number {
-                return Heard {
-                    answer: Err(AirError::OutOfRange),
-                    radio: radio,
-                };
-            }
-            let state = radio.state;
-            match state.reception() {
-                Reception::Nothing => return restart(radio, frame, rx),
-                Reception::Acquiring(mask) => return acquire(radio, mask, frame, rx, out),
-                Reception::Stream(expected) => return follow(radio, expected, frame, rx, out),
-                Reception::Packet(_) => return restart(radio, frame, rx),
+            match radio.state.reception() {
+                Reception::Acquiring(mask) => acquire(radio, mask, frame, rx, out),
+                Reception::Stream(expected) => follow(radio, expected, frame, rx, out),
+                Reception::Nothing | Reception::Packet(_) => restart(radio, frame, rx),
             }
         }
     }
@@ -55,12 +51,9 @@ fn restart(radio: Radio, frame: StreamFrame, rx: &mut [u8]) -> Heard
     requires { (frame.lich_idx ≤ 5) × (length rx.old ≡ RX) }
     ensures { (result, rx.new) ≡ restarted radio frame rx.old }
 {
-    let part = frame.lich_part;
-    let set = LichCollection::new().set_segment(frame.lich_idx, part);
-    let collection = set.collection;
-    let segments = collection.segments;
-    store::copy_in(&segments, rx, 0);
-    radio.turned(State::RxAcquiringStream(collection.mask))
+    let set = LichCollection::new().set_segment(frame.lich_idx, frame.lich_part);
+    rx[..30].copy_from_slice(&set.collection.segments);
+    radio.turned(State::RxAcquiringStream(set.collection.mask))
 }
 
 // One segment more of the LSF.
@@ -68,18 +61,11 @@ fn acquire(radio: Radio, mask: u8, frame: StreamFrame, rx: &mut [u8], out: &mut 
     requires { (mask < 64) × (frame.lich_idx ≤ 5) × (frame.frame_number ≤ 32767) × (length rx.old ≡ RX) × (length out.old ≡ MESSAGE) }
     ensures { (result, rx.new, out.new) ≡ acquired radio mask frame rx.old out.old }
 {
-    let mut held = [0u8; 30];
-    store::copy_in(&rx[..30], &mut held, 0);
-    let part = frame.lich_part;
-    let before = LichCollection {
-        segments: held,
-        mask: mask,
-    };
-    let set = before.set_segment(frame.lich_idx, part);
-    let collection = set.collection;
-    let segments = collection.segments;
-    store::copy_in(&segments, rx, 0);
-    complete(radio, collection, frame.frame_number, out)
+    let mut segments = [0u8; 30];
+    segments.copy_from_slice(&rx[..30]);
+    let set = LichCollection { segments, mask }.set_segment(frame.lich_idx, frame.lich_part);
+    rx[..30].copy_from_slice(&set.collection.segments);
+    complete(radio, set.collection, frame.frame_number, out)
 }
 
 // The LSF goes to the host once all its segments have been heard and its CRC is right. This frame's data and its end are passed over.
@@ -87,19 +73,12 @@ fn complete(radio: Radio, collection: LichCollection, number: u16, out: &mut [u8
     requires { (collection.mask < 64) × (number ≤ 32767) × (length out.old ≡ MESSAGE) }
     ensures { (result, out.new) ≡ acquired_with radio collection number out.old }
 {
-    let whole = collection.try_assemble();
-    let lsf = whole.bytes;
-    let answer = whole.answer;
-    match answer {
-        Assembly::Whole => {
-            if lsf_frame::check_crc(LsfFrame(lsf)) != 0 {
-                return radio.turned(State::RxAcquiringStream(collection.mask));
-            }
-            let built = new_stream_setup(&lsf, out);
-            return told(State::RxStream(number + 1), built);
-        }
-        Ok(None) => return radio.turned(State::RxAcquiringStream(collection.mask)),
-        Err(LichError::OutOfBounds) => return radio.turned(State::RxAcquiringStream(collection.mask)),
+    match collection.try_assemble() {
+        Ok(Some(lsf)) if lsf_frame::check_crc(LsfFrame(lsf)) == 0 => told(
+            State::RxStream(number + 1),
+            new_stream_setup(&lsf, out),
+        ),
+        _ => radio.turned(State::RxAcquiringStream(collection.mask)),
     }
 }
 
@@ -111,9 +90,10 @@ fn follow(radio: Radio, expected: u16, frame: StreamFrame, rx: &mut [u8], out: &
     if frame.frame_number < expected {
         return restart(radio, frame, rx);
     }
-    let built = new_stream_data(frame, out);
-    if frame.end_of_stream {
-        return told(State::Idle, built);
-    }
-    told(State::RxStream(frame.frame_number + 1), built)
+    let next = if frame.end_of_stream {
+        State::Idle
+    } else {
+        State::RxStream(frame.frame_number + 1)
+    };
+    told(next, new_stream_data(frame, out))
 }

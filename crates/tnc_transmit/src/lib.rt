@@ -1,11 +1,11 @@
 // The TNC's call for the modulator.
-#![tactic(auto)]
+#![tactic(auto, unfolding(crate::specs::Calls::tnc_tx, host_record::specs::Host::stores_fit, choice::specs::Pick::and, choice::specs::Pick::pick))]
 
 ghost use Rattle.std.specs.Prelude.{◌≡◌};
 ghost use Rattle.tnc_transmit.specs.Calls.{not_given, put_given, tnc_tx};
 
 use channel::Channel;
-use host_record::{PACKET_STORE_LEN, STREAM_STORE_LEN};
+use host_record::stores_fit;
 use protocol::ModulatorFrame;
 use radio::Radio;
 use room::LentError;
@@ -24,10 +24,7 @@ pub struct TncTx {
 pub fn read_tx_frame(tnc: Tnc, channel: Channel, packets: &[u8], streams: &[u8]) -> TncTx
     ensures { result ≡ tnc_tx tnc channel packets.now streams.now }
 {
-    if packets.len() != PACKET_STORE_LEN {
-        return not_given(LentError::WrongStore, tnc, channel);
-    }
-    if streams.len() != STREAM_STORE_LEN {
+    if !stores_fit(packets.len(), streams.len()) {
         return not_given(LentError::WrongStore, tnc, channel);
     }
     if !tnc.is_sound() {
@@ -42,15 +39,14 @@ pub fn read_tx_frame(tnc: Tnc, channel: Channel, packets: &[u8], streams: &[u8])
 fn put_given(tnc: Tnc, read: TxRead) -> TncTx
     ensures { result ≡ put_given tnc read }
 {
-    let radio = Radio {
-        state: read.state,
-        ..tnc.radio
-    };
     TncTx {
         answer: read.answer,
         tnc: Tnc {
             sending: read.sending,
-            radio,
+            radio: Radio {
+                state: read.state,
+                ..tnc.radio
+            },
             ptt: read.state.ptt(),
             ..tnc
         },

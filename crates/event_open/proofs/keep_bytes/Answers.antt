@@ -29,7 +29,7 @@ loop-event-preserved c =
       rw ends (ap (λ (d : List ℕ). kept_run (drop (l.i + 2) a.src.now) (l.i + 2) d (l.j + 7) (set l.reader l.n (get_or (get_or c.as_chunks.result.0.now l.event-index []) 1 0)) (l.n + 1) a.on)
           (line_put a.on l.dst _ l.j (omega (arith, roomy)) c.put_line.ensures)
           ∙ run-keeps a.src.now l.i (event_fits a.src.now a.at l.event-index l.i chunks.front below l.invariant.0) l.dst l.j l.reader l.n a.on
-              (event_kind a.src.now a.at l.event-index l.i chunks.front below l.invariant.0) (event_byte a.src.now a.at l.event-index l.i chunks.front below l.invariant.0) kept
+          (event_kind a.src.now a.at l.event-index l.i chunks.front below l.invariant.0) (event_byte a.src.now a.at l.event-index l.i chunks.front below l.invariant.0) kept
           ∙ l.invariant.5),
     )
 
@@ -44,5 +44,5 @@ returns-then-not-kind-b c =
     let a = c.args in let l = c.loop-event in let chunks = c.as_chunks.ensures in
     let below : l.event-index < length (take (length a.src.now - a.at) (drop a.at a.src.now)) / 2 = omega (arith, chunks.front_len, c.loop-event-test.true) in
     run_stops a.src.now l.i (event_fits a.src.now a.at l.event-index l.i chunks.front below l.invariant.0) l.dst l.j l.reader l.n a.on
-        (event_kind a.src.now a.at l.event-index l.i chunks.front below l.invariant.0) (event_byte a.src.now a.at l.event-index l.i chunks.front below l.invariant.0)
-        (not_no (as_kept _ _ _ _) (ap not c.if-not-kind-b.true)) ∙ l.invariant.5
+    (event_kind a.src.now a.at l.event-index l.i chunks.front below l.invariant.0) (event_byte a.src.now a.at l.event-index l.i chunks.front below l.invariant.0)
+    (not_no (as_kept _ _ _ _) (ap not c.if-not-kind-b.true)) ∙ l.invariant.5

@@ -1,6 +1,6 @@
 -- `event_step::apply` meets its contract. Assumes nothing.
 use Rattle.std.proofs.Common.{◌≡◌, refl}
-use mathlib.Core.Option.{none}
+use Rattle.std.specs.Prelude.{None}
 use Rattle.choice.specs.Pick.{tests}
 use Rattle.event_step.specs.Step.{call_of}
 use Rattle.event_step.proofs.Events.{small, unknown, on_host, on_carrier, on_clock_lem, on_end, on_lsf, on_packet, on_stream, on_tx, on_read}
@@ -40,7 +40,7 @@ pub returns-in_default : goal.returns-in_default
 unfolding call_of
 returns-in_default c =
     let a = c.args in
-    let none-of-them : none ≡ call_of a.kind a.body.now a.bytes.now = search tests depth 14 in
+    let none-of-them : None ≡ call_of a.kind a.body.now a.bytes.now = search tests depth 14 in
     unknown a.before a.kind a.body.now a.reader.now a.packets.now a.streams.now a.rx.now a.message.now a.bytes.now c.refuse-in_default.result c.refuse-in_default.ensures c.if-bytes-lt-MOST_BYTES.false none-of-them
 
 pub shape_of-reader : goal.shape_of-reader

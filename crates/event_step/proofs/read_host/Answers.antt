@@ -37,4 +37,4 @@ returns c =
     let a = c.args in let as_long : get_or a.body.now 0 0 ≡ length c.read_kiss-read.new.target = sym (c.read_kiss-read.auto.target ∙ length-take-le (get_or a.body.now 0 0) a.bytes.now (within)) in
     pick_yes _ (eq-eqb (length a.body.now) 1 c.if-body-ne1.false)
     (pick_yes _ (le-leb MOST (length a.bytes.now) c.if-bytes-lt-MOST_BYTES.false)
-    (read_part a.before.channel c.read_kiss-read.result a.bytes.now c.read_kiss-read.new.target (get_or a.body.now 0 0) as_long (counted _ c.unwrap_or.ensures) c.answer.ensures (numbered _ host_number (λ _. refl) (λ _. refl) _ c.number_of.ensures) c.read_kiss-read.ensures))
+    (read_part a.before.channel c.read_kiss-read.result a.bytes.now c.read_kiss-read.new.target (get_or a.body.now 0 0) as_long (counted c.read_kiss-read.result.answer c.unwrap_or-count.ensures) c.answer.ensures (numbered _ host_number (λ _. refl) (λ _. refl) _ c.number_of.ensures) c.read_kiss-read.ensures))

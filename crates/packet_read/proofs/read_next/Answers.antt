@@ -1,38 +1,27 @@
 -- `packet_read::read_next` meets its contract. Assumes nothing.
-use Rattle.std.proofs.Common.{◌≡◌, sym, ◌∙◌}
-use mathlib.Core.Bool.{true}
-use borrow.Author.Tests.{not-true, not-false}
+use Rattle.std.proofs.Common.{◌≡◌, sym, ◌∙◌, ap, rules}
+use mathlib.Core.Bool.{false≢true}
+use Rattle.std.specs.Result.{is_ok}
 use lib.ListN.{length}
-use Rattle.packets.specs.Queue.{STORE, sound_queue}
+use Rattle.packets.specs.Queue.{STORE, walk}
 use Rattle.packets.proofs.Cases.{read_wrong, read_unsound, read_empty, read_walks}
-use Rattle.std.proofs.Common.{ap}
-use mathlib.Core.Bool.{not}
 use Rattle.packet_read.proofs.read_next.Goals as goal
 
-pub returns-then-store-ne-STORE_LEN : goal.returns-then-store-ne-STORE_LEN
-returns-then-store-ne-STORE_LEN c = let a = c.args in c.not_read.ensures ∙ read_wrong a.queue a.store.now c.if-store-ne-STORE_LEN.true
+pub returns-in_default : goal.returns-in_default
+returns-in_default c = read_wrong c.args.queue c.args.store.now (λ l. false≢true (sym (ap is_ok c.in_default.is) ∙ c.try_from.ensures.0 l))
 
 pub returns-then-not-is_sound : goal.returns-then-not-is_sound
 returns-then-not-is_sound c =
-    let a = c.args in
-    c.not_read-then-not-is_sound.ensures ∙ read_unsound a.queue a.store.now c.if-store-ne-STORE_LEN.false (sym c.is_sound.ensures ∙ not-true _ (ap not c.if-not-is_sound.true))
+    let whole : length c.args.store.now ≡ STORE = search rules in
+    read_unsound c.args.queue c.args.store.now whole (sym c.is_sound.ensures ∙ c.if-not-is_sound.true)
 
 pub returns-then-is_empty : goal.returns-then-is_empty
 returns-then-is_empty c =
-    let whole : length c.args.store.now ≡ STORE = c.if-store-ne-STORE_LEN.false in
-    let sound : sound_queue c.args.queue ≡ true = sym c.is_sound.ensures ∙ not-false _ (ap not c.if-not-is_sound.false) in
-    let a = c.args in
-    c.not_read-then-is_empty.ensures ∙ read_empty a.queue a.store.now (whole) (sound) (sym c.is_empty.ensures ∙ c.if-is_empty.true)
+    let whole : length c.args.store.now ≡ STORE = search rules in
+    read_empty c.args.queue c.args.store.now whole (sym c.is_sound.ensures ∙ c.if-not-is_sound.false) (sym c.is_empty.ensures ∙ c.if-is_empty.true)
 
 pub returns : goal.returns
 returns c =
-    let whole : length c.args.store.now ≡ STORE = c.if-store-ne-STORE_LEN.false in
-    let sound : sound_queue c.args.queue ≡ true = sym c.is_sound.ensures ∙ not-false _ (ap not c.if-not-is_sound.false) in
-    let a = c.args in
-    c.next_frame.ensures ∙ read_walks a.queue a.store.now (whole) (sound) (sym c.is_empty.ensures ∙ c.if-is_empty.false)
-
-pub next_frame-requires : goal.next_frame-requires
-next_frame-requires c =
-    let whole : length c.args.store.now ≡ STORE = c.if-store-ne-STORE_LEN.false in
-    let sound : sound_queue c.args.queue ≡ true = sym c.is_sound.ensures ∙ not-false _ (ap not c.if-not-is_sound.false) in
-    (whole, sound)
+    let whole : length c.args.store.now ≡ STORE = search rules in
+    let walked : c.next_frame.result ≡ walk 4 c.args.queue c.args.store.now = search rules in
+    walked ∙ read_walks c.args.queue c.args.store.now whole (sym c.is_sound.ensures ∙ c.if-not-is_sound.false) (sym c.is_empty.ensures ∙ c.if-is_empty.false)

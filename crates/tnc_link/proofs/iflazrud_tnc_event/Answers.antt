@@ -4,7 +4,7 @@ use Rattle.choice.specs.Pick.{pick_yes, pick_no}
 use Rattle.event_answer.specs.declared.EventBox.{EventBox}
 use Rattle.event_step.specs.Step.{applied, world_of}
 use Rattle.tnc_link.specs.Saved.{box_of, saved_turn, of_turn, event_on}
-use Rattle.tnc_link.proofs.Reads.{read_no, read-yes}
+use Rattle.tnc_link.proofs.Known.{read_no, read-yes}
 use Rattle.tnc_link.proofs.iflazrud_tnc_event.Goals as goal
 
 pub returns-in_default : goal.returns-in_default
