@@ -39,10 +39,13 @@ pub fn count_of<E: Into<u8>>(answer: Result<usize, E>) -> Counted
 pub fn reader_answer<E: Into<u8>>(answer: Result<usize, E>, reader: KissBuffer) -> ReaderAnswer
     ensures { MatchResult answer (λ n. result ≡ told 0 n reader) (λ error. E.converts error result.number × (result.count ≡ 0) × (result.reader ≡ reader)) }
 {
-    let counted = count_of(answer);
+    let (number, count) = match answer {
+        Ok(count) => (0, count),
+        Err(error) => (error.into(), 0),
+    };
     ReaderAnswer {
-        number: counted.number,
-        count: counted.count,
+        number,
+        count,
         reader,
     }
 }
