@@ -11,8 +11,5 @@ use kiss_calls::MAX_FRAME_LEN;
 pub fn link_fits(reader: usize, packets: usize, streams: usize) -> bool
     ensures { result ≡ link_fits reader packets streams }
 {
-    if reader != MAX_FRAME_LEN {
-        return false;
-    }
-    stores_fit(packets, streams)
+    reader == MAX_FRAME_LEN && stores_fit(packets, streams)
 }

@@ -12,12 +12,10 @@ use Rattle.kiss_calls.specs.declared.WriteError.{WriteError}
 use Rattle.kiss_calls.specs.declared.Written.{Written}
 use Rattle.kiss_reader.specs.Reader.{STORE as READER}
 use Rattle.kiss_calls.specs.Calls.{written}
-use Rattle.kiss_calls.specs.Promises.{Box as ReaderBox}
 use Rattle.packets.specs.Queue.{STORE as PACKETS}
 use Rattle.streams.specs.Queue.{STORE as STREAMS}
 use Rattle.host_record.specs.declared.Host.{Host}
 use Rattle.host_record.specs.Host.{sound_host}
-use Rattle.host_frame.specs.Promises.{Box as HostBox}
 use Rattle.tnc_drain.specs.Drain.{reader_box, host_box}
 use Rattle.tnc.specs.Bytes.{onward, offered, kiss_written}
 

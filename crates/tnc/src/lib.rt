@@ -45,30 +45,24 @@ pub fn write_kiss(
     ensures { (result, reader.new, packets.new, streams.new) ≡ tnc_written tnc channel buf.now reader.old packets.old streams.old }
 {
     if !link_fits(reader.len(), packets.len(), streams.len()) {
-        return not_written(Err(WriteError::WrongStore), tnc, channel);
+        return not_written(WriteError::WrongStore, tnc, channel);
     }
-    if !tnc.is_sound() {
-        return not_written(Err(WriteError::OutOfBounds), tnc, channel);
+    if !tnc.is_sound() || !channel.is_sound() {
+        return not_written(WriteError::OutOfBounds, tnc, channel);
     }
-    if !channel.is_sound() {
-        return not_written(Err(WriteError::OutOfBounds), tnc, channel);
-    }
-    let buffer = tnc.buffer;
-    let written = kiss_buffer::write(buffer, buf, reader);
-    let answer = written.answer;
-    // A reader that took nothing is as it was.
-    if !was_taken(answer) {
-        return not_written(answer, tnc, channel);
-    }
-    let sending = tnc.sending;
-    let host = Host {
-        sending: sending,
-        channel: channel,
+    let written = kiss_buffer::write(tnc.buffer, buf, reader);
+    let count = match written.answer {
+        Ok(count) => count,
+        // A reader that took nothing is as it was.
+        Err(error) => return not_written(error, tnc, channel),
     };
-    let held = written.buffer;
+    let host = Host {
+        sending: tnc.sending,
+        channel,
+    };
     put_back(
         tnc,
-        take_frames(written.count, held, host, reader, packets, streams),
+        take_frames(count, written.buffer, host, reader, packets, streams),
     )
 }
 
@@ -87,20 +81,16 @@ fn take_frames(
     let mut held = buffer;
     let mut obeyed = host;
     loop {
-        let next = kiss_next::next_frame(held, reader);
-        held = next.buffer;
-        let found = held.taken;
-        if !found {
+        held = kiss_next::next_frame(held, reader).buffer;
+        if !held.taken {
             return KissWritten {
-                answer: WriteAnswer::Done,
-                count: count,
+                answer: Ok(count),
                 buffer: held,
                 host: obeyed,
             };
         }
         let frame = kiss_sound::frame(held, reader);
-        let taken = host_frame::take_frame(obeyed, frame, packets, streams);
-        obeyed = taken.host;
+        obeyed = host_frame::take_frame(obeyed, frame, packets, streams).host;
     }
 }
 
@@ -108,31 +98,22 @@ fn not_written(error: WriteError, tnc: Tnc, channel: Channel) -> TncWritten
     ensures { result ≡ not_written error tnc channel }
 {
     TncWritten {
-        answer: answer,
-        count: 0,
-        tnc: tnc,
-        channel: channel,
+        answer: Err(error),
+        tnc,
+        channel,
     }
 }
 
 fn put_back(tnc: Tnc, written: KissWritten) -> TncWritten
     ensures { result ≡ put_back tnc written }
 {
-    let answer = written.answer;
-    let buffer = written.buffer;
-    let host = written.host;
-    let sending = host.sending;
-    let channel = host.channel;
-    let radio = tnc.radio;
     TncWritten {
-        answer: answer,
-        count: written.count,
+        answer: written.answer,
         tnc: Tnc {
-            buffer: buffer,
-            sending: sending,
-            radio: radio,
-            ptt: tnc.ptt,
+            buffer: written.buffer,
+            sending: written.host.sending,
+            ..tnc
         },
-        channel: channel,
+        channel: written.host.channel,
     }
 }
