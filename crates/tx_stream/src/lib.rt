@@ -30,10 +30,12 @@ pub fn give_stream(sending: Sending, channel: Channel, streams: &[u8]) -> TxRead
 fn after_stream(answer: Result<Option<ModulatorFrame>, LentError>) -> State
     ensures { result ≡ after_stream answer }
 {
-    match answer {
-        Ok(Some(ModulatorFrame::Stream(frame))) if frame.end_of_stream => {
-            State::TxStreamSentEndOfStream
-        }
-        _ => State::TxStream,
+    let Ok(Some(ModulatorFrame::Stream(frame))) = answer else {
+        return State::TxStream;
+    };
+    if frame.end_of_stream {
+        State::TxStreamSentEndOfStream
+    } else {
+        State::TxStream
     }
 }

@@ -4,5 +4,4 @@ use Rattle.tx_packet.proofs.give_packet.Goals as goal
 
 pub returns : goal.returns
 unfolding packet_given
-returns c =
-    rw (c.after_packet.ensures, c.packet_answer.ensures, c.read_next-read.ensures)
+returns c = rw (c.after_packet.ensures, c.read_next-read.ensures)

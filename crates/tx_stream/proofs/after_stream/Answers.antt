@@ -1,18 +1,18 @@
 -- `tx_stream::after_stream` meets its contract. Assumes nothing.
-use mathlib.Core.Bool.{Bool}
-use Rattle.std.proofs.Common.{◌≡◌}
-use Rattle.choice.specs.Pick.{tests}
-use Rattle.state.specs.declared.State.{State}
-use Rattle.streams.specs.declared.StreamReadAnswer.{StreamReadAnswer}
-use Rattle.tx_stream.specs.Stream.{after_stream}
+use Rattle.std.proofs.Common.{◌≡◌, rules}
+use Rattle.std.specs.Prelude.{Ok, Some}
+use Rattle.choice.specs.Pick.{pick}
+use Rattle.protocol.specs.declared.ModulatorFrame.TheVariants.{Stream}
 use Rattle.tx_stream.proofs.after_stream.Goals as goal
 
--- what holds of the variant that the match found holds of the answer
-known : {a b : StreamReadAnswer} {r : State} (last : Bool) → a ≡ b → r ≡ after_stream b last → r ≡ after_stream a last
-known last e f = rw e f
+pub returns-then-frame : goal.returns-then-frame
+unfolding pick
+returns-then-frame c =
+    let is : c.args.answer ≡ Ok (Some (Stream c.in-Ok-Some-Stream.frame)) = search rules in
+    rw (is, c.if-frame.true)
 
-pub returns-then-last : goal.returns-then-last
-returns-then-last c = known c.args.last c.in-Frame.is (search tests)
-
-pub returns-else-last : goal.returns-else-last
-returns-else-last c = known c.args.last c.in-Frame.is (search tests)
+pub returns-else-frame : goal.returns-else-frame
+unfolding pick
+returns-else-frame c =
+    let is : c.args.answer ≡ Ok (Some (Stream c.in-Ok-Some-Stream.frame)) = search rules in
+    rw (is, c.if-frame.false)

@@ -4,5 +4,4 @@ use Rattle.tx_stream.proofs.give_stream.Goals as goal
 
 pub returns : goal.returns
 unfolding stream_given
-returns c =
-    rw (c.after_stream.ensures, c.stream_answer.ensures, c.read_next-read.ensures)
+returns c = rw (c.after_stream.ensures, c.read_next-read.ensures)
