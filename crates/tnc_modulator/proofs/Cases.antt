@@ -1,6 +1,6 @@
 -- What the definitions come to, case by case, as the code meets the cases. Assumes nothing.
 use Prim.Native.Nat.{ℕ}
-use mathlib.Core.Bool.{Bool, true, false, not, ◌||◌, false≢true}
+use mathlib.Core.Bool.{Bool, true, false, not, ◌&&◌, ◌||◌, false≢true}
 use mathlib.Core.List.{List}
 use mathlib.Core.Path.{◌≡◌, refl, sym, ap, ◌∙◌}
 use borrow.Author.Tests.{eq-eqb, eqb-true}
@@ -28,6 +28,13 @@ unfolding and
 none_wrong true true e = refl
 none_wrong true false e = absurd (false≢true (sym e))
 none_wrong false b e = absurd (false≢true (sym e))
+
+-- the tests of all records at once
+pub three_sound : {a b c x y z : Bool} → a ≡ x → b ≡ y → c ≡ z → ((a && b) && c) ≡ and x (and y z)
+unfolding and
+three_sound {a = true} {b = true} e f g = rw (sym e, sym f) g
+three_sound {a = true} {b = false} e f g = rw (sym e, sym f)
+three_sound {a = false} e f g = rw (sym e)
 
 module _ (state : State) (sending : Sending) (channel : Channel) (packets streams : List ℕ) where
   -- the test of both lengths at once

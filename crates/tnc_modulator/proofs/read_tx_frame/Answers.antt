@@ -1,14 +1,8 @@
 -- `tnc_modulator::read_tx_frame` meets its contract. Assumes nothing.
-use Rattle.std.proofs.Common.{◌≡◌, ◌∙◌}
+use Rattle.std.proofs.Common.{◌≡◌, ◌∙◌, sym}
 use lib.ListN.{length}
-use Rattle.choice.specs.Pick.{not_yes, not_no}
-use Rattle.state.specs.declared.Transmission.{Transmission}
-use Rattle.state.specs.State.{transmission_of}
-use Rattle.tx_frame.specs.declared.TxRead.{TxRead}
-use Rattle.tnc_modulator.specs.Modulator.{PACKETS, STREAMS, given, tx_read}
+use Rattle.tnc_modulator.specs.Modulator.{PACKETS, STREAMS}
 use Rattle.tnc_modulator.proofs.Cases.{stores_wrong, stores_fit_lem, unsound, passed}
-use Rattle.std.proofs.Common.{ap}
-use mathlib.Core.Bool.{not}
 use Rattle.tnc_modulator.proofs.read_tx_frame.Goals as goal
 
 pub returns-then-packets-streams : goal.returns-then-packets-streams
@@ -18,36 +12,36 @@ returns-then-packets-streams c =
 
 pub returns-then-not-all_sound : goal.returns-then-not-all_sound
 returns-then-not-all_sound c =
-    let fit : (length c.args.packets.now ≡ PACKETS) × (length c.args.streams.now ≡ STREAMS) = let a = c.args in stores_fit_lem a.state a.sending a.channel a.packets.now a.streams.now c.if-packets-streams.false in
     let a = c.args in
-    c.unfilled-then-not-all_sound.ensures ∙ unsound a.state a.sending a.channel a.packets.now a.streams.now (fit).0 (fit).1 (not_no c.all_sound.ensures (ap not c.if-not-all_sound.true))
+    let fit : (length a.packets.now ≡ PACKETS) × (length a.streams.now ≡ STREAMS) = stores_fit_lem a.state a.sending a.channel a.packets.now a.streams.now c.if-packets-streams.false in
+    c.unfilled-then-not-all_sound.ensures ∙ unsound a.state a.sending a.channel a.packets.now a.streams.now fit.0 fit.1 (sym c.all_sound.ensures ∙ c.if-not-all_sound.true)
 
 pub returns-in-Receiving : goal.returns-in-Receiving
 returns-in-Receiving c =
-    let fit : (length c.args.packets.now ≡ PACKETS) × (length c.args.streams.now ≡ STREAMS) = let a = c.args in stores_fit_lem a.state a.sending a.channel a.packets.now a.streams.now c.if-packets-streams.false in
-    let past : (t u : Transmission) → u ≡ transmission_of c.args.state → u ≡ t → (r : TxRead) → let a = c.args in r ≡ given t a.state a.sending a.channel a.packets.now a.streams.now → r ≡ tx_read a.state a.sending a.channel a.packets.now a.streams.now = λ t' u' f g r' h. let a = c.args in h ∙ passed a.state a.sending a.channel a.packets.now a.streams.now (fit).0 (fit).1 (not_yes c.all_sound.ensures (ap not c.if-not-all_sound.false)) f g in
-    past _ _ c.transmission.ensures c.in-Receiving.is _ c.begin.ensures
+    let a = c.args in
+    let fit : (length a.packets.now ≡ PACKETS) × (length a.streams.now ≡ STREAMS) = stores_fit_lem a.state a.sending a.channel a.packets.now a.streams.now c.if-packets-streams.false in
+    c.begin.ensures ∙ passed a.state a.sending a.channel a.packets.now a.streams.now fit.0 fit.1 (sym c.all_sound.ensures ∙ c.if-not-all_sound.false) c.transmission.ensures c.in-Receiving.is
 
 pub returns-in-Stream : goal.returns-in-Stream
 returns-in-Stream c =
-    let fit : (length c.args.packets.now ≡ PACKETS) × (length c.args.streams.now ≡ STREAMS) = let a = c.args in stores_fit_lem a.state a.sending a.channel a.packets.now a.streams.now c.if-packets-streams.false in
-    let past : (t u : Transmission) → u ≡ transmission_of c.args.state → u ≡ t → (r : TxRead) → let a = c.args in r ≡ given t a.state a.sending a.channel a.packets.now a.streams.now → r ≡ tx_read a.state a.sending a.channel a.packets.now a.streams.now = λ t' u' f g r' h. let a = c.args in h ∙ passed a.state a.sending a.channel a.packets.now a.streams.now (fit).0 (fit).1 (not_yes c.all_sound.ensures (ap not c.if-not-all_sound.false)) f g in
-    past _ _ c.transmission.ensures c.in-Stream.is _ c.give_stream.ensures
+    let a = c.args in
+    let fit : (length a.packets.now ≡ PACKETS) × (length a.streams.now ≡ STREAMS) = stores_fit_lem a.state a.sending a.channel a.packets.now a.streams.now c.if-packets-streams.false in
+    c.give_stream.ensures ∙ passed a.state a.sending a.channel a.packets.now a.streams.now fit.0 fit.1 (sym c.all_sound.ensures ∙ c.if-not-all_sound.false) c.transmission.ensures c.in-Stream.is
 
 pub returns-in-StreamSent : goal.returns-in-StreamSent
 returns-in-StreamSent c =
-    let fit : (length c.args.packets.now ≡ PACKETS) × (length c.args.streams.now ≡ STREAMS) = let a = c.args in stores_fit_lem a.state a.sending a.channel a.packets.now a.streams.now c.if-packets-streams.false in
-    let past : (t u : Transmission) → u ≡ transmission_of c.args.state → u ≡ t → (r : TxRead) → let a = c.args in r ≡ given t a.state a.sending a.channel a.packets.now a.streams.now → r ≡ tx_read a.state a.sending a.channel a.packets.now a.streams.now = λ t' u' f g r' h. let a = c.args in h ∙ passed a.state a.sending a.channel a.packets.now a.streams.now (fit).0 (fit).1 (not_yes c.all_sound.ensures (ap not c.if-not-all_sound.false)) f g in
-    past _ _ c.transmission.ensures c.in-StreamSent.is _ c.unfilled-in-StreamSent.ensures
+    let a = c.args in
+    let fit : (length a.packets.now ≡ PACKETS) × (length a.streams.now ≡ STREAMS) = stores_fit_lem a.state a.sending a.channel a.packets.now a.streams.now c.if-packets-streams.false in
+    c.unfilled-in-StreamSent.ensures ∙ passed a.state a.sending a.channel a.packets.now a.streams.now fit.0 fit.1 (sym c.all_sound.ensures ∙ c.if-not-all_sound.false) c.transmission.ensures c.in-StreamSent.is
 
 pub returns-in-Packet : goal.returns-in-Packet
 returns-in-Packet c =
-    let fit : (length c.args.packets.now ≡ PACKETS) × (length c.args.streams.now ≡ STREAMS) = let a = c.args in stores_fit_lem a.state a.sending a.channel a.packets.now a.streams.now c.if-packets-streams.false in
-    let past : (t u : Transmission) → u ≡ transmission_of c.args.state → u ≡ t → (r : TxRead) → let a = c.args in r ≡ given t a.state a.sending a.channel a.packets.now a.streams.now → r ≡ tx_read a.state a.sending a.channel a.packets.now a.streams.now = λ t' u' f g r' h. let a = c.args in h ∙ passed a.state a.sending a.channel a.packets.now a.streams.now (fit).0 (fit).1 (not_yes c.all_sound.ensures (ap not c.if-not-all_sound.false)) f g in
-    past _ _ c.transmission.ensures c.in-Packet.is _ c.give_packet.ensures
+    let a = c.args in
+    let fit : (length a.packets.now ≡ PACKETS) × (length a.streams.now ≡ STREAMS) = stores_fit_lem a.state a.sending a.channel a.packets.now a.streams.now c.if-packets-streams.false in
+    c.give_packet.ensures ∙ passed a.state a.sending a.channel a.packets.now a.streams.now fit.0 fit.1 (sym c.all_sound.ensures ∙ c.if-not-all_sound.false) c.transmission.ensures c.in-Packet.is
 
 pub returns-in-Ending : goal.returns-in-Ending
 returns-in-Ending c =
-    let fit : (length c.args.packets.now ≡ PACKETS) × (length c.args.streams.now ≡ STREAMS) = let a = c.args in stores_fit_lem a.state a.sending a.channel a.packets.now a.streams.now c.if-packets-streams.false in
-    let past : (t u : Transmission) → u ≡ transmission_of c.args.state → u ≡ t → (r : TxRead) → let a = c.args in r ≡ given t a.state a.sending a.channel a.packets.now a.streams.now → r ≡ tx_read a.state a.sending a.channel a.packets.now a.streams.now = λ t' u' f g r' h. let a = c.args in h ∙ passed a.state a.sending a.channel a.packets.now a.streams.now (fit).0 (fit).1 (not_yes c.all_sound.ensures (ap not c.if-not-all_sound.false)) f g in
-    past _ _ c.transmission.ensures c.in-Ending.is _ c.unfilled-in-Ending.ensures
+    let a = c.args in
+    let fit : (length a.packets.now ≡ PACKETS) × (length a.streams.now ≡ STREAMS) = stores_fit_lem a.state a.sending a.channel a.packets.now a.streams.now c.if-packets-streams.false in
+    c.unfilled-in-Ending.ensures ∙ passed a.state a.sending a.channel a.packets.now a.streams.now fit.0 fit.1 (sym c.all_sound.ensures ∙ c.if-not-all_sound.false) c.transmission.ensures c.in-Ending.is
