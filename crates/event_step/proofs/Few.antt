@@ -8,7 +8,7 @@ use borrow.Author.Tests.{leb-true}
 use lib.ListN.{length, take, drop, get_or, replicate, length-take, length-drop, length-append}
 use Rattle.choice.specs.Pick.{pick_all}
 use Rattle.channel.specs.declared.Channel.{Channel}
-use Rattle.std.specs.Prelude.{Result, Ok, Err, Option, Some, None}
+use Rattle.std.specs.Prelude.{Result, Ok, Err, Option}
 use Rattle.channel.specs.declared.Access.{Access}
 use Rattle.channel.specs.declared.ChannelError.{ChannelError}
 use Rattle.channel.specs.declared.Access.TheVariants.{Sends, Waits}
