@@ -7,6 +7,7 @@ ghost use Rattle.link_numbers.specs.Numbers.{counted, told};
 use kiss_calls::KissBuffer;
 
 // A number of document 01, and how many bytes where it is 0.
+// C has no Result: the two stand side by side.
 #[repr(C)]
 #[derive(Clone, Copy)]
 pub struct Counted {
