@@ -29,7 +29,7 @@ RefusedKeepsAll = (c : Channel) → Kept c
 
 -- while a carrier is heard nobody sends, but in full duplex
 abbrev pub CarrierHoldsBack : Type 0
-CarrierHoldsBack = (c : Channel) → c.carrier ≡ true → c.duplex ≡ false → (accessed c).answer ≢ (Ok Sends)
+CarrierHoldsBack = (c : Channel) → c.carrier ≡ true → c.duplex ≡ false → (accessed c).answer ≢ Ok Sends
 
 -- full duplex always sends, and leaves a pending check pending
 abbrev pub DuplexSends : Type 0

@@ -94,6 +94,7 @@ impl Channel {
         })
     }
 
+    // The setters are the Rust's names: each tests, and sets its own field.
     pub fn set_data_carrier_detect(self, dcd: bool) -> ChannelSet
         ensures { result ≡ carrier_set self dcd }
     {

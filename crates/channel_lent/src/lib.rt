@@ -7,6 +7,7 @@ ghost use Rattle.channel_lent.specs.Lent.{set_by};
 
 use channel::{Channel, ChannelError};
 
+// Document 01 asks for this form, three thin setters over the calls by value.
 pub fn set_now(channel: &mut Channel, now_samples: u64) -> Result<(), ChannelError>
     ensures { (result, channel.new) ≡ set_by (clock_set channel.old now_samples) }
 {

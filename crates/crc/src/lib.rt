@@ -66,6 +66,7 @@ pub fn m17_crc(input: &[u8]) -> u16
     let (pairs, odd) = input.as_chunks::<2>();
     // Two bytes fill the register, so both look-ups of a step go by the register before it: neither waits for the other.
     for [first, second] in pairs {
+        // The halves of the register are steps of the division, and no bytes of a number.
         let high = (crc / 256) ^ u16::from(*first);
         let low = (crc % 256) ^ u16::from(*second);
         crc = twice[usize::from(high)] ^ table[usize::from(low)];

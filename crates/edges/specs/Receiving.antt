@@ -19,7 +19,7 @@ pub record Put : Type 0 where
   pub air_keeps_ptt : (t : Tnc) (a : (Result (Unit {0}) AirError)) (o : Outgoing) → ((put_heard t (record { answer = a; radio = record { state = Idle; outgoing = o } })).tnc.ptt ≡ false)
       × ((put_heard t (record { answer = a; radio = record { state = TxPacket; outgoing = o } })).tnc.ptt ≡ true)
   -- a frame out of range is 6: the call answers what the radio answers
-  pub answer_forgotten : (t : Tnc) (r : Radio) → (put_heard t (record { answer = Err OutOfRange; radio = r })).answer ≡ (Err OutOfRange)
+  pub answer_forgotten : (t : Tnc) (r : Radio) → (put_heard t (record { answer = Err OutOfRange; radio = r })).answer ≡ Err OutOfRange
 
 -- a lent store not of its stated length is 7, and all lent bytes and records stay
 pub record Refused : Type 0 where

@@ -18,6 +18,7 @@ use event_stream::stream_frame;
 use protocol::{Frame, LsfFrame};
 use tnc_receive::handle_frame;
 
+// Three events, each with its own length and parse; what they share is `told`.
 pub fn lsf(before: EventBox, body: &[u8], rx: &mut [u8], message: &mut [u8]) -> Applied
     ensures { (result, rx.new, message.new) ≡ pick (eqb (length body.now) 30) (of_heard before.channel (air_heard before.tnc rx.old message.old (lsf_heard before.tnc.radio body.now rx.old message.old))) (refused before, rx.old, message.old) }
 {

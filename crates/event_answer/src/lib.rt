@@ -17,6 +17,7 @@ pub struct EventBox {
 
 #[derive(Clone, Copy)]
 pub struct Applied {
+    // A number and no Result: the line prints it, which of 08 is the frame's kind, and C gets it (`tnc_link::EventAnswer`).
     pub number: u8,
     // How many bytes of the room the event prints.
     pub count: usize,

@@ -4,7 +4,7 @@ use mathlib.Core.List.{List}
 use native.Mathlib.Omega.{arith}
 use lib.ListN.{length, length-take}
 use Rattle.choice.specs.Pick.{pick_all}
-use Rattle.std.specs.Prelude.{Result, Ok, Err, Option, Some, None, Bool, false, true}
+use Rattle.std.specs.Prelude.{Result, Ok, Err, Option, Some, None, Bool}
 use Rattle.radio.specs.declared.AirError.{AirError}
 use Rattle.radio.specs.declared.AirError.TheVariants.{OutOfRange as AirRange, WrongStore as AirStore, OutOfBounds as AirBounds}
 use Rattle.channel.specs.declared.ChannelError.{ChannelError}

@@ -40,7 +40,7 @@ use Rattle.event_input.specs.Events.{HOST, known, body_len}
 use Rattle.event_line.specs.Line.{line_of}
 use Rattle.event_line.proofs.Lines.{line_none_long}
 use Rattle.event_answer.specs.declared.EventBox.{EventBox}
-use Rattle.event_answer.specs.Answer.{MOST, LINE, on_flag, keyed, answered}
+use Rattle.event_answer.specs.Answer.{MOST, LINE, keyed, answered}
 use Rattle.event_step.specs.Host.{of_write}
 use Rattle.event_step.specs.Step.{Turn, applied, world_of, turn_of}
 use Rattle.event_step.proofs.Events.{on_host}

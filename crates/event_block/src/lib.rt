@@ -41,6 +41,7 @@ pub fn run_block(
     let mut station = before;
     let mut at = 0;
     let mut wrote = 0;
+    // No `for`: where the next event begins is known once a run behind this one was taken.
     while LINE_LEN <= dst.len() - wrote {
         let Next::Complete { kind, start, next } = event_input::next_event(src, at) else {
             break;

@@ -5,7 +5,7 @@ ghost use Rattle.std.specs.Prelude.{◌≡◌};
 ghost use Rattle.event_input.specs.Events.{body_len, next_at};
 
 // What stands at a place of the input. The body of a whole event goes from start up to next.
-#[derive(Clone, Copy)]
+#[derive(Clone, Copy, Debug, PartialEq, Eq)]
 pub enum Next {
     Complete { kind: u8, start: usize, next: usize },
     Cut(u8),
@@ -18,6 +18,7 @@ const FIRST_KIND: u8 = 1;
 const LAST_KIND: u8 = 9;
 
 // How many bytes follow a kind. A kind that is not known has none.
+// Numbers and no enum: a kind is a byte of the input, and C hands in any (`event_step::apply`).
 fn body_len(kind: u8) -> usize
     ensures { result ≡ body_len kind }
 {

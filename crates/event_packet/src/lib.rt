@@ -7,6 +7,7 @@ ghost use Rattle.event_packet.specs.Packet.{counter_of, counter_byte, packet_of,
 use protocol::{PacketFrame, PacketFrameCounter};
 
 // The body of 06: the frame's bytes, then its index or, from 128 on, the length of the last frame.
+// A frame and its body are turned by functions, since the types are `protocol`'s and the layout is document 01's event.
 pub fn packet_frame(body: [u8; 26]) -> PacketFrame
     ensures { result ≡ packet_of body }
 {

@@ -2,12 +2,13 @@
 use Prim.Native.Nat.{ℕ, zero, suc, ◌+◌, ◌-◌, ◌*◌, ◌/◌, ◌%◌, ◌≤◌}
 use mathlib.Core.Path.{◌≡◌}
 use mathlib.Core.List.{List, [], ◌∷◌}
+use mathlib.Core.Option.{Option as Maybe}
 use native.Mathlib.Omega.{arith}
 use borrow.Author.Tests.{leb-true}
 use lib.ListN.{length, take, drop, get_or, replicate, length-take, length-drop, length-append}
 use Rattle.choice.specs.Pick.{pick_all}
 use Rattle.channel.specs.declared.Channel.{Channel}
-use Rattle.std.specs.Prelude.{Result, Ok, Err, Option, Some, None}
+use Rattle.std.specs.Prelude.{Result, Ok, Err, Option}
 use Rattle.channel.specs.declared.Access.{Access}
 use Rattle.channel.specs.declared.ChannelError.{ChannelError}
 use Rattle.channel.specs.declared.Access.TheVariants.{Sends, Waits}
@@ -165,7 +166,7 @@ abbrev Few : Turn → Type 0
 Few t = t.count ≤ 255
 
 -- of the call that an event stands for
-abbrev FewOf : World → List ℕ → Option Call → Type 0
+abbrev FewOf : World → List ℕ → Maybe Call → Type 0
 FewOf w room c = Few (perhaps w room c)
 
 call_few : (k : ℕ) (b : List ℕ) (w : World) (room : List ℕ) → get_or b 0 0 ≤ 255 → FewOf w room (call_of k b room)

@@ -77,6 +77,7 @@ fn carrier(before: EventBox, body: &[u8]) -> Applied
     answer(number_of(set.answer), 0, before.tnc, set.channel)
 }
 
+// As `end_time`, but for the length and the call: all that it says.
 fn clock(before: EventBox, body: &[u8]) -> Applied
     ensures { result ≡ pick (eqb (length body.now) 8) (of_timed (now_set before.tnc before.channel (eight_bytes body.now 0))) (refused before) }
 {

@@ -56,6 +56,7 @@ fn put(src: &[u8], bytes: &mut [u8]) -> usize
     src.len()
 }
 
+// The number that the line of 08 prints. No From: both types are other crates'.
 fn kind_number(given: Result<Option<ModulatorFrame>, LentError>) -> u8
     ensures { result ≡ kind_number given }
 {

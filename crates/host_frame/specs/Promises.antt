@@ -41,7 +41,7 @@ RefusedKeepsAll = (x : Box) (frame : List ℕ) → frame_number (taken_at x fram
 
 -- a sound record is never refused, and stays sound, whatever the frame
 abbrev pub SoundStaysSound : Type 0
-SoundStaysSound = (x : Box) (frame : List ℕ) → Sound x → ((taken_at x frame).0.answer ≡ (Ok tt)) × Sound (after x frame)
+SoundStaysSound = (x : Box) (frame : List ℕ) → Sound x → ((taken_at x frame).0.answer ≡ Ok tt) × Sound (after x frame)
 
 -- ports over 2 are ignored: nothing has changed
 abbrev pub OtherPortsIgnored : Type 0

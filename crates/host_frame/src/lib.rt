@@ -88,6 +88,7 @@ fn take_data(host: Host, number: u8, frame: &[u8], packets: &mut [u8], streams: 
     }
 }
 
+// This and the next are one assignment each: a name for the definition that they equal.
 fn with_packets(mut host: Host, queue: PacketQueue) -> Host
     ensures { result ≡ with_packets host queue }
 {

@@ -27,7 +27,7 @@ after_next_frame x = record { buffer = (next_frame x.buffer x.store).0.buffer; s
 
 -- frames are taken until none is left: from x, the frames fs, which leaves y
 pub data Drain : Box → List (List ℕ) → Box → Type 0 where
-  none_left : {x : Box} → (next_frame x.buffer x.store).0.answer ≡ (Ok None) → Drain x [] (after_next_frame x)
+  none_left : {x : Box} → (next_frame x.buffer x.store).0.answer ≡ Ok None → Drain x [] (after_next_frame x)
   handed_out : {x y : Box} {n : ℕ} {fs : List (List ℕ)} → (next_frame x.buffer x.store).0.answer ≡ Ok (Some n) → Drain (after_next_frame x) fs y
       → Drain x (frame_in (after_next_frame x).buffer (after_next_frame x).store ∷ fs) y
 

@@ -48,6 +48,7 @@ pub struct Written {
 }
 
 // The length of the frame that stands whole at the store's start, where one does.
+// A record of its own, as each call's: a field named after what it holds says more than a shared one.
 #[derive(Clone, Copy)]
 pub struct NextFrame {
     pub answer: Result<Option<usize>, LentError>,

@@ -72,6 +72,7 @@ fn put_each(src: &[u8], dst: &mut [u8], to: usize) -> usize
 }
 
 // The byte behind FESC that stands for FEND or FESC: a choice between two numbers, of which the compiler makes no branch.
+// Not shared with `kiss_unescape::meant`: one line each, with other bytes.
 fn code(b: u8) -> u8
     ensures { result ≡ pick (eqb b FEND) TFEND TFESC }
 {

@@ -8,6 +8,7 @@ ghost use Rattle.kiss_settings.specs.Setting.{setting};
 use kiss_frame::put_frame;
 use kiss_layout::{BuildError, KissCommand};
 
+// The three builders are the Rust's names, one line each over what they share.
 pub fn new_set_tx_delay(port: u8, units: u8, room: &mut [u8]) -> Result<usize, BuildError>
     ensures { (result, room.new) ≡ built (set_tx_delay port units) room.old }
 {

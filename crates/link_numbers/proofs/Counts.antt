@@ -1,6 +1,6 @@
 -- What C gets of an answer, from what `count_of` and `reader_answer` say of it. Assumes nothing.
 use Prim.Native.Nat.{ℕ}
-use mathlib.Core.Path.{◌≡◌, refl, ap, sym, ◌∙◌}
+use mathlib.Core.Path.{◌≡◌, ap, sym, ◌∙◌}
 use Rattle.std.specs.Prelude.{Result, Ok, Err}
 use Rattle.std.specs.Result.{MatchResult}
 use Rattle.kiss_calls.specs.declared.KissBuffer.{KissBuffer}
@@ -17,9 +17,3 @@ pub answer_is : {E : Type 0} {b : KissBuffer} {c : ReaderAnswer} (f : E → ℕ)
 answer_is {b = b} f g p q (Ok n) h = h ∙ sym (p n)
 answer_is {b = b} {c = c} f g p q (Err e) h =
     ap (λ (k : ℕ). told k c.count c.reader) h.0 ∙ ap (λ (k : ℕ). told (f e) k c.reader) h.1 ∙ ap (told (f e) 0) h.2 ∙ sym (q e)
-
--- the record goes beside what is counted
-pub with_reader : {E : Type 0} (c : Counted) (b : KissBuffer) (P : E → ℕ → Type 0) (a : Result ℕ E) → MatchResult a (λ n. c ≡ counted 0 n) (λ e. P e c.number × (c.count ≡ 0))
-    → MatchResult a (λ n. told c.number c.count b ≡ told 0 n b) (λ e. P e c.number × (c.count ≡ 0) × (b ≡ b))
-with_reader c b P (Ok n) h = ap (λ (k : Counted). told k.number k.count b) h
-with_reader c b P (Err e) h = (h.0, h.1, refl)

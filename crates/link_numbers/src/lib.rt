@@ -7,6 +7,7 @@ ghost use Rattle.link_numbers.specs.Numbers.{counted, told};
 use kiss_calls::KissBuffer;
 
 // A number of document 01, and how many bytes where it is 0.
+// C has no Result: the two stand side by side.
 #[repr(C)]
 #[derive(Clone, Copy)]
 pub struct Counted {
@@ -39,10 +40,13 @@ pub fn count_of<E: Into<u8>>(answer: Result<usize, E>) -> Counted
 pub fn reader_answer<E: Into<u8>>(answer: Result<usize, E>, reader: KissBuffer) -> ReaderAnswer
     ensures { MatchResult answer (λ n. result ≡ told 0 n reader) (λ error. E.converts error result.number × (result.count ≡ 0) × (result.reader ≡ reader)) }
 {
-    let counted = count_of(answer);
+    let (number, count) = match answer {
+        Ok(count) => (0, count),
+        Err(error) => (error.into(), 0),
+    };
     ReaderAnswer {
-        number: counted.number,
-        count: counted.count,
+        number,
+        count,
         reader,
     }
 }

@@ -10,6 +10,7 @@ use lsf_bytes::lsf_type;
 pub use lsf_bytes::meta;
 use protocol::{DataType, EncryptionType, LsfFrame};
 
+// The getters are the Rust's names, one line each over the conversions of `protocol`.
 pub fn data_type(lsf: LsfFrame) -> DataType
     ensures { result ≡ data_type_of (field_of data_type_bits lsf.0) }
 {
@@ -22,6 +23,7 @@ pub fn encryption_type(lsf: LsfFrame) -> EncryptionType
     EncryptionType::try_from(lsf_type(lsf.0) / 8 % 4).unwrap()
 }
 
+// `as`, since `u8::try_from(..).unwrap()` is longer and says no more.
 pub fn channel_access_number(lsf: LsfFrame) -> u8
     ensures { result ≡ field_of channel_bits lsf.0 }
 {

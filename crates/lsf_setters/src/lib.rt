@@ -11,6 +11,7 @@ ghost use Rattle.lsf_setters.specs.Lsf.{with_field};
 use lsf_bytes::{lsf_type, with_type};
 use protocol::{DataType, EncryptionType, LsfFrame, Mode};
 
+// The setters are the Rust's names, one line each over what they share.
 pub fn set_mode(lsf: LsfFrame, mode: Mode) -> LsfFrame
     ensures { result.0 ≡ with_field mode_bits (mode_number mode) lsf.0 }
 {

@@ -35,6 +35,7 @@ pub fn read_next(queue: PacketQueue, store: &[u8]) -> PacketRead
 }
 
 // Passes over the places that are spent. Such a place is free from here on, so that a full queue has room again.
+// Document 01 asks for this form, a loop over the four places that breaks with the next frame or the end.
 fn next_frame(queue: PacketQueue, store: &[u8; STORE_LEN]) -> PacketRead
     requires { sound_queue queue ≡ true }
     ensures { result ≡ walk 4 queue store.now }

@@ -52,6 +52,7 @@ pub struct Pushed {
 }
 
 // The next frame, where there is one.
+// A record of its own, as `StreamRead`: a field named after what it holds says more than a shared one.
 #[derive(Clone, Copy)]
 pub struct PacketRead {
     pub answer: Result<Option<ModulatorFrame>, LentError>,

@@ -109,6 +109,7 @@ fn wrote<W: Write>(target: &mut W, answer: Told, room: &[u8]) -> io::Result<()> 
     target.write_all(room)
 }
 
+// Kinds are numbers, as they come in the request.
 fn ask(
     kind: u8,
     a: &[u8],

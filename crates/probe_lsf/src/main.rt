@@ -64,6 +64,7 @@ fn ask(kind: u8, v: u8, bytes: &mut [u8; 30], lich: &mut LichCollection) -> Told
     }
 }
 
+// Kinds are numbers, as they come in the request.
 fn lsf_number(kind: u8, f: LsfFrame) -> usize {
     usize::from(match kind {
         16 => lsf_frame::check_crc(f),

@@ -46,7 +46,7 @@ RefusedKeepsAll =
 
 -- an ignored frame leaves no trace, and a read that answers nothing neither
 abbrev pub IgnoredKeepsAll : Type 0
-IgnoredKeepsAll = (x : Box) → ((frame : List ℕ) → push_answer x frame ≡ (Ok Ignored) → after_push x frame ≡ x) × ((next_of x).answer ≡ (Ok None) → after_read x ≡ x)
+IgnoredKeepsAll = (x : Box) → ((frame : List ℕ) → push_answer x frame ≡ Ok Ignored → after_push x frame ≡ x) × ((next_of x).answer ≡ Ok None → after_read x ≡ x)
 
 -- what a stream transmission consists of: an LSF and stream frames
 abbrev pub of_streams : ModulatorFrame → Bool
@@ -84,7 +84,7 @@ frame_in frame = stream_of (decoded_of frame).1
 abbrev pub StoredIsRead : Type 0
 StoredIsRead =
     (x : Box) → Sound x → empty_queue x.queue ≡ true → x.queue.pending ≡ false
-    → (frame : List ℕ) → push_answer x frame ≡ (Ok Queued) → (next_of (after_push x frame)).answer ≡ Ok (Some (Stream (frame_in frame)))
+    → (frame : List ℕ) → push_answer x frame ≡ Ok Queued → (next_of (after_push x frame)).answer ≡ Ok (Some (Stream (frame_in frame)))
 
 -- how many frames wait, and these, first to last
 unfoldable pub count : StreamQueue → ℕ
@@ -136,8 +136,8 @@ lsf_waiting x = pick x.queue.pending (Some (part LSF 30 x.store)) None
 -- an LSF that was taken waits in place of one that waited before; other frames leave it; it is read once, and only while a frame waits
 abbrev pub LsfWaitsUntilRead : Type 0
 LsfWaitsUntilRead =
-    (x : Box) → Sound x → ((frame : List ℕ) → push_answer x frame ≡ (Ok LsfPending) → lsf_waiting (after_push x frame) ≡ Some (decoded_of frame).1)
-    × ((frame : List ℕ) → push_answer x frame ≢ (Ok LsfPending) → lsf_waiting (after_push x frame) ≡ lsf_waiting x)
+    (x : Box) → Sound x → ((frame : List ℕ) → push_answer x frame ≡ Ok LsfPending → lsf_waiting (after_push x frame) ≡ Some (decoded_of frame).1)
+    × ((frame : List ℕ) → push_answer x frame ≢ Ok LsfPending → lsf_waiting (after_push x frame) ≡ lsf_waiting x)
     × ((lsf : LsfFrame) → (next_of x).answer ≡ Ok (Some (Lsf lsf)) → (lsf_waiting x ≡ Some lsf.0) × (lsf_waiting (after_read x) ≡ None) × (empty_queue x.queue ≡ false))
     × (((lsf : LsfFrame) → (next_of x).answer ≢ Ok (Some (Lsf lsf))) → lsf_waiting (after_read x) ≡ lsf_waiting x)
 
@@ -145,7 +145,7 @@ LsfWaitsUntilRead =
 abbrev pub FullStopsDataNotLsf : Type 0
 FullStopsDataNotLsf =
     (x : Box) → Sound x → x.queue.full ≡ true → (frame : List ℕ) (n : ℕ) → (decoded_of frame).0 ≡ Ok n
-    → (n ≤ DATA → push_answer x frame ≡ (Ok Ignored)) × (DATA < n → crc_of (decoded_of frame).1 ≡ 0 → push_answer x frame ≡ (Ok LsfPending))
+    → (n ≤ DATA → push_answer x frame ≡ Ok Ignored) × (DATA < n → crc_of (decoded_of frame).1 ≡ 0 → push_answer x frame ≡ Ok LsfPending)
 
 -- ---- what a builder wrote
 
@@ -154,6 +154,6 @@ abbrev pub BuiltIsTaken : Type 0
 BuiltIsTaken =
     (x : Box) → Sound x
     → ((f : StreamFrame) → Accepted (stream_data f) → x.queue.full ≡ false
-    → (push_answer x (built_frame (stream_data f)) ≡ (Ok Queued)) × (frame_in (built_frame (stream_data f)) ≡ f))
+    → (push_answer x (built_frame (stream_data f)) ≡ Ok Queued) × (frame_in (built_frame (stream_data f)) ≡ f))
     × ((lsf : List ℕ) → length lsf ≡ 30 → crc_of lsf ≡ 0
-    → (push_answer x (built_frame (stream_setup lsf)) ≡ (Ok LsfPending)) × ((decoded_of (built_frame (stream_setup lsf))).1 ≡ lsf))
+    → (push_answer x (built_frame (stream_setup lsf)) ≡ Ok LsfPending) × ((decoded_of (built_frame (stream_setup lsf))).1 ≡ lsf))

@@ -25,6 +25,7 @@ pub struct KissWritten {
     pub host: Host,
 }
 
+// As `KissWritten` but for the records, which its fields name.
 #[derive(Clone, Copy)]
 pub struct TncWritten {
     // How many of the offered bytes were taken.
@@ -67,6 +68,7 @@ pub fn write_kiss(
 }
 
 // Frames are taken until none is left; then the count of taken bytes is answered. Each frame that is taken leaves fewer bytes to search.
+// No `for`: how many frames there are is known once they are taken, since each is cut out of the store that is lent on.
 fn take_frames(
     count: usize,
     buffer: KissBuffer,

@@ -38,6 +38,7 @@ pub struct Saved {
     pub channel: Channel,
 }
 
+// What C gets: document 01's number, and the count beside it.
 #[repr(C)]
 #[derive(Clone, Copy)]
 pub struct EventAnswer {

@@ -11,6 +11,7 @@ use sending::Sending;
 use state::State;
 use tx_frame::TxRead;
 
+// As `tx_stream::give_stream`, but for the queue, its field and the state behind it: all that it says.
 pub fn give_packet(sending: Sending, channel: Channel, packets: &[u8]) -> TxRead
     ensures { result ≡ packet_given sending channel packets.now }
 {

@@ -8,7 +8,6 @@ use lib.Dec.{leb}
 use lib.ListN.{length}
 use lib.Seq.{sets, length-sets}
 use Rattle.choice.specs.Pick.{not_yes, not_no}
-use Rattle.room.proofs.Copies.{copied_in}
 use Rattle.std.specs.Prelude.{Ok}
 use Rattle.event_line.specs.Line.{tail_of, line_of}
 use Rattle.event_line.proofs.Lines.{front, one_most, flag_is, line_is, line_stored, line_long, line_least, part_stored, fits_line, written_over, written_no, written-yes}

@@ -1,6 +1,5 @@
 -- `event_open::keep_bytes` meets its contract. The invariant says that the run from the place reached leaves what the run from the start leaves. Assumes nothing.
-use Rattle.std.proofs.Common.{ℕ, ◌+◌, ◌-◌, ◌*◌, ◌/◌, ◌≤◌, ◌<◌, ◌≡◌, ap, ◌∙◌, arith}
-use mathlib.Core.Bool.{true}
+use Rattle.std.proofs.Common.{ℕ, ◌+◌, ◌-◌, ◌/◌, ◌≤◌, ◌<◌, ◌≡◌, ap, ◌∙◌, arith}
 use mathlib.Core.List.{List, []}
 use lib.ListN.{length, take, drop, get_or, set, length-drop, length-set}
 use Rattle.std.proofs.lemmas.List.{take_rest}
@@ -9,7 +8,7 @@ use Rattle.std.specs.Result.{result_unwrap_or}
 use Rattle.event_line.specs.declared.LineError.{LineError}
 use Rattle.choice.specs.Pick.{not_yes, not_no}
 use Rattle.event_answer.specs.Answer.{LINE}
-use Rattle.event_open.specs.Inside.{keeps, kept_run}
+use Rattle.event_open.specs.Inside.{kept_run}
 use Rattle.event_open.proofs.Runs.{event_fits, event_kind, event_byte, run_short, run_stops, run-keeps, as_kept, kept_room, line_put, line_ends}
 use mathlib.Core.Bool.{not}
 use Rattle.event_open.proofs.keep_bytes.Goals as goal

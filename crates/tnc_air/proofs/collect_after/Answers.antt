@@ -16,7 +16,7 @@ returns-then-index-count c =
     let a = c.args in
     in_store a.radio a.count a.index a.payload a.rx.now c.if-rx-ne-RX_STORE_LEN.false
     (elim c.then-index-count.branch [
-      then-index-count-via-then-index-count w ↦ out_of_order a.radio a.count a.index a.payload a.rx.now c.turned.ensures w.if-index-count.true
+      | then-index-count-via-then-index-count w ↦ out_of_order a.radio a.count a.index a.payload a.rx.now c.turned.ensures w.if-index-count.true
       | then-index-count-via-else-index-count+then-index-ge32 w ↦
           too_many a.radio a.count a.index a.payload a.rx.now c.turned.ensures w.if-index-count.false w.if-index-ge32.true
     ])

@@ -15,6 +15,6 @@ returns c =
     let a = c.args in
     c.set_to.ensures
     ∙ elim c.else-is_sound.branch [
-      else-is_sound-via-then-is_sound+else-now_samples-gt-LAST w ↦ in_range a.self a.now_samples w.if-now_samples-gt-LAST.false
+      | else-is_sound-via-then-is_sound+else-now_samples-gt-LAST w ↦ in_range a.self a.now_samples w.if-now_samples-gt-LAST.false
       | else-is_sound-via-else-is_sound w ↦ unsound a.self a.now_samples (sym c.is_sound.ensures ∙ w.if-is_sound.false)
     ]
