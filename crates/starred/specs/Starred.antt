@@ -6,9 +6,7 @@ use Rattle.choice.specs.Cases.{all_pass, same}
 use Rattle.protocol.specs.declared.PacketFrameCounter.{PacketFrameCounter}
 use Rattle.protocol.specs.declared.PacketFrameCounter.TheVariants.{Frame as Counted, FinalFrame}
 use Rattle.room.specs.declared.NoRoom.{NoRoom}
-use Rattle.room.specs.Room.{no_room}
 use Rattle.kiss_layout.specs.declared.BuildError.{BuildError}
-use Rattle.kiss_layout.specs.declared.BuildError.TheVariants.{PayloadTooBig, LsfWrongSize, OutOfRange, NoRoom}
 use Rattle.kiss_layout.specs.Escape.{escaped}
 use Rattle.kiss_layout.specs.Unescape.{unescaped}
 use Rattle.kiss_layout.specs.Build.{Building, set_tx_delay, built}
@@ -49,7 +47,7 @@ starred =
 
 abbrev pub wrote : Result ℕ NoRoom → List ℕ → List ℕ → Bool
 wrote (Ok n) room gives = same (take n room) gives
-wrote (Err no_room) room gives = false
+wrote (Err error) room gives = false
 
 unfoldable pub same_frames : List (List ℕ) → List (List ℕ) → Bool
 same_frames [] [] = true
@@ -59,10 +57,7 @@ same_frames (f ∷ fs) (g ∷ gs) = and (same f g) (same_frames fs gs)
 
 abbrev pub framed : Result ℕ BuildError → List ℕ → List ℕ → Bool
 framed (Ok n) room gives = same (take n room) gives
-framed (Err PayloadTooBig) room gives = false
-framed (Err LsfWrongSize) room gives = false
-framed (Err OutOfRange) room gives = false
-framed (Err NoRoom) room gives = false
+framed (Err error) room gives = false
 
 abbrev pub same_counter : PacketFrameCounter → PacketFrameCounter → Bool
 same_counter (Counted i) (Counted j) = eqb i j
