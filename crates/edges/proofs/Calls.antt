@@ -8,7 +8,7 @@ use Rattle.packets.specs.Queue.{sound_place, sound_queue as sound_packets}
 use Rattle.streams.specs.Queue.{sound_queue as sound_streams}
 use Rattle.sending.specs.Sending.{sound_sending}
 use Rattle.radio.specs.Radio.{sound_radio}
-use Rattle.kiss_reader.specs.Reader.{flush, is_full, refused}
+use Rattle.kiss_reader.specs.Reader.{flush, is_full, refused, kept_back, takes}
 use Rattle.kiss_calls.specs.Calls.{sound_buffer, writes, written}
 use Rattle.host_record.specs.Host.{sound_host}
 use Rattle.tnc_core.specs.Tnc.{sound_tnc}
@@ -17,7 +17,7 @@ use Rattle.tnc.specs.Calls.{tnc_written}
 use Rattle.edges.specs.Calls.{Calls}
 
 pub calls : Calls
-unfolding pick and all_pass sound_channel sound_message sound_place sound_packets sound_streams sound_sending sound_radio flush is_full refused sound_buffer writes written sound_host sound_tnc kiss_written tnc_written
+unfolding pick and all_pass sound_channel sound_message sound_place sound_packets sound_streams sound_sending sound_radio flush is_full refused kept_back takes sound_buffer writes written sound_host sound_tnc kiss_written tnc_written
 calls =
     record {
       new_has_a_delay = refl;
