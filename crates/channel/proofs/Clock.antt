@@ -1,7 +1,7 @@
 -- The clock's setter: what a change of the record comes to, by the tests before it. Assumes nothing.
 use Prim.Native.Nat.{ℕ, ◌≤◌}
 use mathlib.Core.Bool.{false}
-use mathlib.Core.Path.{◌≡◌}
+use mathlib.Core.Path.{◌≡◌, refl}
 use borrow.Author.Tests.{le-leb}
 use Rattle.std.specs.Prelude.{Ok, Err}
 use Rattle.choice.specs.Pick.{pick}

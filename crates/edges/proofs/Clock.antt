@@ -1,7 +1,7 @@
 -- Proved: what the clock and the numbers of saved states give at their edges, by computation. Assumes nothing.
 use mathlib.Core.Path.{refl}
 use Rattle.choice.specs.Pick.{pick, and}
-use Rattle.tnc_link.specs.Numbers.{valid_state, state_of}
+use Rattle.tnc_link.specs.Numbers.{valid_state, state_of, state_read}
 use Rattle.edges.specs.Clock.{Ends, Saved}
 
 pub ends : Ends
@@ -13,7 +13,7 @@ ends = record {
 }
 
 pub saved : Saved
-unfolding pick and valid_state state_of
+unfolding pick and valid_state state_of state_read
 saved = record {
   kinds_swapped = refl;
   sent_end_told_as_packet = refl;

@@ -2,7 +2,7 @@
 use mathlib.Core.Path.{refl}
 use Rattle.choice.specs.Pick.{pick, and}
 use Rattle.channel.specs.Access.{sound_channel, clock_set, carrier_set, duplex_set, accessed}
-use Rattle.tnc_link.specs.Numbers.{valid_state, state_of}
+use Rattle.tnc_link.specs.Numbers.{valid_state, state_of, state_read}
 use Rattle.outgoing.specs.Message.{sound_message, read_up_to, host_read}
 use Rattle.edges.specs.States.{Channels, States, Saved, Messages}
 
@@ -27,7 +27,7 @@ states =
     }
 
 pub saved : Saved
-unfolding valid_state state_of and pick
+unfolding valid_state state_of state_read and pick
 saved = record { ending_restored_as_packet = refl; expected_cut_to_a_byte = refl; idle_has_a_value = refl }
 
 pub messages : Messages

@@ -1,9 +1,9 @@
 -- How the clock ends a transmission, and which numbers stand for a state that is saved, from document 01's "Bounds for 8" and m17core's tnc.rs.
 -- Each fact rules out the wrong answer that it is named after. Assumes nothing.
-use Rattle.std.specs.Prelude.{ℕ, true, false, ◌≡◌}
+use Rattle.std.specs.Prelude.{ℕ, ◌≡◌, Ok, Err}
 use Rattle.state.specs.declared.State.TheVariants.{Idle, RxAcquiringStream, TxStream, TxStreamSentEndOfStream, TxEnding, TxEndingAtTime}
 use Rattle.state.specs.State.{time_reached, ending_at}
-use Rattle.tnc_link.specs.Numbers.{state_numbers, state_read}
+use Rattle.tnc_link.specs.Numbers.{state_numbers, state_read, no_state}
 
 pub record Ends : Type 0 where
   -- only the first end that is given counts
@@ -22,6 +22,6 @@ pub record Saved : Type 0 where
   -- a state without a number has the value 0
   pub plain_state_has_a_value : state_numbers TxEnding ≡ record { kind = 7; value = 0 }
   -- a mask is a byte: 255 can be one, 256 can not
-  pub mask_over_a_byte : (state_read 1 255 ≡ record { valid = true; state = RxAcquiringStream 255 }) × ((state_read 1 256).valid ≡ false)
+  pub mask_over_a_byte : (state_read 1 255 ≡ Ok (RxAcquiringStream 255)) × (state_read 1 256 ≡ Err no_state)
   -- a kind over 8 is no state
-  pub unknown_state_idle : (state_read 8 0 ≡ record { valid = true; state = TxEndingAtTime 0 }) × ((state_read 9 0).valid ≡ false)
+  pub unknown_state_idle : (state_read 8 0 ≡ Ok (TxEndingAtTime 0)) × (state_read 9 0 ≡ Err no_state)

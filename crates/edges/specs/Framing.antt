@@ -1,6 +1,6 @@
 -- What the CRC and the definitions of framing say at their edges, from the M17 specification's CRC vectors and from document 01's "KISS bytes", "The reader's meaning", "LSF, LICH, frames" and answer 7.
 -- Each fact rules out the wrong answer that it is named after. Assumes nothing.
-use Rattle.std.specs.Prelude.{ℕ, Bool, true, false, ◌≡◌, List, [], ◌∷◌, ◌++◌, drop, get_or, replicate, Ok, Err}
+use Rattle.std.specs.Prelude.{ℕ, Bool, true, false, ◌≡◌, List, [], ◌∷◌, ◌++◌, drop, get_or, replicate, Ok, Err, Option, None, Some}
 use Rattle.crc.specs.Crc.{crc_of}
 use Rattle.blocks.specs.Block.{loaded, stored, without}
 use Rattle.kiss_layout.specs.declared.BuildError.TheVariants.{NoRoom as NoFrame}
@@ -47,17 +47,25 @@ abbrev pub stream_frame : ℕ → ℕ → Bool → ℕ → List ℕ → StreamFr
 stream_frame index number last p bytes =
     record { lich_idx = index; lich_part = p ∷ p ∷ p ∷ p ∷ p ∷ []; frame_number = number; end_of_stream = last; stream_data = bytes }
 
+-- a content, or as many zeros where there is none
+abbrev pub bytes_of : Option (List ℕ) → List ℕ
+bytes_of None = replicate 26 0
+bytes_of (Some content) = content
+
+abbrev pub content_of : StreamFrame → List ℕ
+content_of frame = bytes_of (checked_content frame)
+
 pub record Frames : Type 0 where
   -- the top bit of the number's first byte marks the end
   pub end_not_marked :
-      (p : ℕ) (s : List ℕ) → (get_or (checked_content (stream_frame 0 0 true p s)).bytes 6 0 ≡ 0x80) × (get_or (checked_content (stream_frame 0 0 false p s)).bytes 6 0 ≡ 0)
+      (p : ℕ) (s : List ℕ) → (get_or (content_of (stream_frame 0 0 true p s)) 6 0 ≡ 0x80) × (get_or (content_of (stream_frame 0 0 false p s)) 6 0 ≡ 0)
   -- the CRC over number and data, here of eighteen zeros, goes high byte first
-  pub stream_crc_turned : (p : ℕ) → drop 24 (checked_content (stream_frame 0 0 false p (replicate 16 0))).bytes ≡ 0x46 ∷ 0x47 ∷ []
+  pub stream_crc_turned : (p : ℕ) → drop 24 (content_of (stream_frame 0 0 false p (replicate 16 0))) ≡ 0x46 ∷ 0x47 ∷ []
   -- index times 32
-  pub stream_index_low : (p : ℕ) (s : List ℕ) → get_or (checked_content (stream_frame 5 0 false p s)).bytes 5 0 ≡ 0xA0
+  pub stream_index_low : (p : ℕ) (s : List ℕ) → get_or (content_of (stream_frame 5 0 false p s)) 5 0 ≡ 0xA0
   -- one byte to escape makes a frame of five bytes: a room of four is left as it is
   pub frame_uncounted_in_too_little_room :
-      (h a b c d : ℕ) → (put_frame (frame h (0xC0 ∷ [])) (a ∷ b ∷ c ∷ d ∷ []) ≡ ((Err NoFrame), a ∷ b ∷ c ∷ d ∷ []))
+      (h a b c d : ℕ) → (put_frame (frame h (0xC0 ∷ [])) (a ∷ b ∷ c ∷ d ∷ []) ≡ (Err NoFrame, a ∷ b ∷ c ∷ d ∷ []))
       × (put_frame (frame h (0x41 ∷ [])) (a ∷ b ∷ c ∷ d ∷ []) ≡ (Ok 4, 0xC0 ∷ h ∷ 0x41 ∷ 0xC0 ∷ []))
 
 pub record Reader : Type 0 where

@@ -37,9 +37,9 @@ pub record States : Type 0 where
 
 pub record Saved : Type 0 where
   -- a saved transmission that ends is one that ends, not one of packets
-  pub ending_restored_as_packet : state_read 7 0 ≡ record { valid = true; state = TxEnding }
+  pub ending_restored_as_packet : state_read 7 0 ≡ Ok TxEnding
   -- an expected frame number has 16 bits: the first that no byte holds is restored
-  pub expected_cut_to_a_byte : state_read 2 256 ≡ record { valid = true; state = RxStream 256 }
+  pub expected_cut_to_a_byte : state_read 2 256 ≡ Ok (RxStream 256)
   -- an idle state has no number: it is saved as 0
   pub idle_has_a_value : state_numbers Idle ≡ record { kind = 0; value = 0 }
 

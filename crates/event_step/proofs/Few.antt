@@ -2,7 +2,6 @@
 use Prim.Native.Nat.{ℕ, zero, suc, ◌+◌, ◌-◌, ◌*◌, ◌/◌, ◌%◌, ◌≤◌}
 use mathlib.Core.Path.{◌≡◌}
 use mathlib.Core.List.{List, [], ◌∷◌}
-use mathlib.Core.Option.{Option as Maybe}
 use native.Mathlib.Omega.{arith}
 use borrow.Author.Tests.{leb-true}
 use lib.ListN.{length, take, drop, get_or, replicate, length-take, length-drop, length-append}
@@ -166,7 +165,7 @@ abbrev Few : Turn → Type 0
 Few t = t.count ≤ 255
 
 -- of the call that an event stands for
-abbrev FewOf : World → List ℕ → Maybe Call → Type 0
+abbrev FewOf : World → List ℕ → Option Call → Type 0
 FewOf w room c = Few (perhaps w room c)
 
 call_few : (k : ℕ) (b : List ℕ) (w : World) (room : List ℕ) → get_or b 0 0 ≤ 255 → FewOf w room (call_of k b room)

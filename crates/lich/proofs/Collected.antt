@@ -5,8 +5,8 @@ use mathlib.Core.List.{List, [], ◌∷◌}
 use Prim.Native.Nat.{ℕ, ◌+◌, ◌*◌, ◌/◌, ◌%◌, ◌≤◌, ◌<◌}
 use native.Mathlib.Omega.{arith}
 use borrow.Author.Tests.{eqb-true, eqb-false, ltb-true, ltb-false}
-use lib.Dec.{ltb, eqb}
-use lib.ListN.{length, take, drop, get_or}
+use lib.Dec.{leb, ltb, eqb}
+use lib.ListN.{length, take, drop, get_or, replicate}
 use lib.Seq.{get_or-take, get_or-drop, ext_get_or}
 use Rattle.choice.specs.Pick.{pick, pick_all}
 use Rattle.room.proofs.Places.{placed-length, placed_there, kept_before, kept_beyond}

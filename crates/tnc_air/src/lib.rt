@@ -40,7 +40,7 @@ pub fn handle_packet(radio: Radio, frame: PacketFrame, rx: &mut [u8], out: &mut 
     }
 }
 
-// A frame that is not a packet's last. The stores stay slices here and below: `hears` has tested their lengths, and an array of its length would be one test more.
+// A frame that is not a packet's last.
 fn collect(radio: Radio, index: usize, payload: [u8; 25], rx: &mut [u8]) -> Heard
     requires { length rx.old ≡ RX }
     ensures { (result, rx.new) ≡ collected radio index payload rx.old }

@@ -46,7 +46,7 @@ pub fn handle_stream(radio: Radio, frame: StreamFrame, rx: &mut [u8], out: &mut 
     }
 }
 
-// Acquisition of the LSF begins anew, with this frame's segment. The stores stay slices here and below: `hears` has tested their lengths, and an array of its length would be one test more.
+// Acquisition of the LSF begins anew, with this frame's segment.
 fn restart(radio: Radio, frame: StreamFrame, rx: &mut [u8]) -> Heard
     requires { (frame.lich_idx ≤ 5) × (length rx.old ≡ RX) }
     ensures { (result, rx.new) ≡ restarted radio frame rx.old }

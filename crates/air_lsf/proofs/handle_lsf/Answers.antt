@@ -1,9 +1,9 @@
 -- `air_lsf::handle_lsf` meets its contract. Assumes nothing.
-use Rattle.std.proofs.Common.{ℕ, ◌≡◌, sym, ap, ◌∙◌, arith, rules}
+use Rattle.std.proofs.Common.{ℕ, ◌≤◌, ◌≡◌, sym, ap, ◌∙◌, arith, rules}
 use mathlib.Core.List.{List, ◌++◌}
 use lib.ListN.{length, drop}
 use lib.Seq.{length-take-le}
-use Rattle.std.specs.Prelude.{Ok}
+use Rattle.std.specs.Prelude.{Ok, true}
 use Rattle.room.specs.Room.{over}
 use Rattle.protocol.specs.Lsf.{field_of, mode_bits}
 use Rattle.protocol.specs.Kinds.{mode_of}
@@ -11,7 +11,7 @@ use Rattle.protocol.specs.declared.lsf.Mode.{Mode}
 use Rattle.kiss_layout.specs.Build.{stream_setup}
 use Rattle.state.specs.declared.State.TheVariants.{RxStream}
 use Rattle.radio.specs.declared.Heard.{Heard}
-use Rattle.radio.specs.Box.{Receiving}
+use Rattle.radio.specs.Box.{Box, Receiving}
 use Rattle.radio.proofs.Cases.{heard_as, frame-only}
 use Rattle.radio.proofs.Messages.{setup_accepted}
 use Rattle.radio_told.proofs.Tells.{told}

@@ -1,11 +1,12 @@
 -- `tnc_air::finish` meets its contract. Assumes nothing.
-use Rattle.std.proofs.Common.{ℕ, ◌+◌, ◌-◌, ◌*◌, ◌≤◌, ◌≡◌, refl, ap, ◌∙◌, arith, rules}
+use Rattle.std.proofs.Common.{ℕ, ◌+◌, ◌-◌, ◌*◌, ◌≤◌, ◌≡◌, refl, sym, ap, ◌∙◌, arith, rules}
 use mathlib.Core.List.{List}
 use borrow.Rule.Slice.PartMut.{put_mid}
 use lib.ListN.{length, take}
 use lib.Seq.{length-take-le}
 use Rattle.room.proofs.Parts.{lent_placed}
 use Rattle.room.proofs.Places.{placed-length}
+use Rattle.radio.specs.declared.Heard.{Heard}
 use Rattle.tnc_air.specs.Collected.{place_of}
 use Rattle.tnc_air.specs.Heard.{completed, packet_told, finished_in, finished_after}
 use Rattle.tnc_air.proofs.Packets.{too_long, finished_as, count_in_lem}

@@ -1,8 +1,10 @@
 -- `tnc_stream::follow` meets its contract. Assumes nothing.
-use Rattle.std.proofs.Common.{◌≡◌, rules}
+use Rattle.std.proofs.Common.{◌+◌, ◌≡◌, ap, ◌∙◌, rules}
 use lib.ListN.{length}
 use Rattle.choice.specs.Pick.{pick}
 use Rattle.kiss_layout.specs.Build.{stream_data}
+use Rattle.state.specs.declared.State.{State}
+use Rattle.state.specs.declared.State.TheVariants.{Idle, RxStream}
 use Rattle.radio.proofs.Messages.{data_accepted}
 use Rattle.radio_told.proofs.Tells.{told}
 use Rattle.tnc_stream.specs.Followed.{behind}

@@ -2,9 +2,10 @@
 use Rattle.std.proofs.Common.{◌≡◌, refl, sym, ap, ◌∙◌}
 use mathlib.Core.Logic.{inl, inr}
 use Rattle.std.specs.Prelude.{Ok}
+use Rattle.state.specs.declared.Reception.{Reception}
 use Rattle.radio.specs.Box.{Receiving}
 use Rattle.radio.proofs.Cases.{heard_as, frame-only}
-use Rattle.tnc_stream.specs.Stream.{ranged, stream_heard}
+use Rattle.tnc_stream.specs.Stream.{received_in, ranged, stream_heard}
 use Rattle.tnc_stream.proofs.Frames.{index_over, number-over, received_as, mask_in_lem}
 use Rattle.tnc_stream.proofs.handle_stream.Goals as goal
 use Rattle.tnc_stream.proofs.handle_stream.Goals.{then-frame-gt5-via-then-frame-gt5, then-frame-gt5-via-else-frame-gt5+then-frame-gt32767}

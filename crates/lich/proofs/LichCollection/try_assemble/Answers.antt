@@ -1,6 +1,6 @@
 -- `lich::LichCollection::try_assemble` meets its contract. Assumes nothing.
 use Rattle.std.proofs.Common.{sym, ap, ◌∙◌}
-use Rattle.std.specs.Prelude.{Ok}
+use Rattle.std.specs.Prelude.{Err, Ok}
 use Rattle.std.proofs.lemmas.Result.{err_from_is_err_and}
 use Rattle.lich.proofs.Assembled.{by_count_lem}
 use Rattle.lich.proofs.LichCollection.try_assemble.Goals as goal
