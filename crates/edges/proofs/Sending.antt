@@ -15,8 +15,8 @@ unfolding tx_read all_sound sound_sending sound_packets sound_place all_pass sou
 transmissions =
     record {
       no_packet_frame_has_an_index = λ a n s q c f. n f;
-      no_stream_frame_ends = λ a n s q c f e. n f;
-      no_stream_frame_has_a_number = λ a n s q c f e. n f;
+      no_stream_frame_ends = λ a n s q c f. n f;
+      no_stream_frame_has_a_number = λ a s q c. refl;
       channel_not_asked = λ s p d. refl;
       empty_queues_key_up = λ s l d c. refl;
       preamble_without_delay = λ s p d. refl;

@@ -39,5 +39,5 @@ hosts =
       full_reader_is_0 = λ w b p s. rw (p, s);
       host_byte_prints_a_byte = λ w b. refl;
       more_than_asked = λ w a b. (refl, refl);
-      read_not_counted = λ c n t bytes room. refl;
+      read_not_counted = λ c t bytes room. (λ n. refl, λ e. refl);
     }

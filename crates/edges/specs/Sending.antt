@@ -32,12 +32,11 @@ pub record Transmissions : Type 0 where
   -- an answer of another kind has no packet frame, whatever its index
   pub no_packet_frame_has_an_index : (a : Result (Option ModulatorFrame) LentError) → ((f : PacketFrame) → a ≢ Ok (Some (Packet f)))
       → (s : State) (q : Sending) (c : Channel) (f : PacketFrame) → (unfilled a s q c).answer ≢ Ok (Some (Packet f))
-  -- and no stream frame that is marked as last
+  -- and no stream frame, one that is marked as last or another
   pub no_stream_frame_ends : (a : Result (Option ModulatorFrame) LentError) → ((f : StreamFrame) → a ≢ Ok (Some (Stream f)))
-      → (s : State) (q : Sending) (c : Channel) (f : StreamFrame) → f.end_of_stream ≡ true → (unfilled a s q c).answer ≢ Ok (Some (Stream f))
-  -- nor one with a number
-  pub no_stream_frame_has_a_number : (a : Result (Option ModulatorFrame) LentError) → ((f : StreamFrame) → a ≢ Ok (Some (Stream f)))
-      → (s : State) (q : Sending) (c : Channel) (f : StreamFrame) → f.frame_number ≢ 0 → (unfilled a s q c).answer ≢ Ok (Some (Stream f))
+      → (s : State) (q : Sending) (c : Channel) (f : StreamFrame) → (unfilled a s q c).answer ≢ Ok (Some (Stream f))
+  -- nor has it anything else: it is the answer that was given
+  pub no_stream_frame_has_a_number : (a : Result (Option ModulatorFrame) LentError) (s : State) (q : Sending) (c : Channel) → (unfilled a s q c).answer ≡ a
   -- no check pending: busy sets one, and nothing is begun
   pub channel_not_asked : (s : State) (p : PacketQueue) (d : ℕ) → (begun s (with_lsf p d) (record { clock = 0; carrier = true; waits = false; check = 0; duplex = false })).answer ≡ Ok None
   -- a TNC with nothing to send begins nothing, whatever the channel

@@ -1,8 +1,9 @@
 -- What the event program's events 01 to 04 and 09 answer and print, from document 01's "Event program" and "Answer numbers".
 -- Each fact rules out the wrong answer that it is named after. Assumes nothing.
-use Rattle.std.specs.Prelude.{ℕ, Bool, true, false, ◌≡◌, List, [], ◌∷◌, ◌++◌, length, replicate, Ok}
+use Rattle.std.specs.Prelude.{ℕ, Bool, true, false, ◌≡◌, List, [], ◌∷◌, ◌++◌, length, replicate, Ok, Err}
 use Rattle.channel.specs.declared.Channel.{Channel}
 use Rattle.channel.specs.Access.{new_channel}
+use Rattle.room.specs.declared.LentError.{LentError}
 use Rattle.tnc_core.specs.declared.Tnc.{Tnc}
 use Rattle.tnc_core.specs.Tnc.{new_tnc}
 use Rattle.any_calls.specs.Calls.{World, with_both}
@@ -63,4 +64,5 @@ pub record Hosts : Type 0 where
   -- 09 read host bytes, at most (1): of two bytes one where one is asked for, and the room beyond it stays
   pub more_than_asked : (w : World) (a b : ℕ) → ((event 9 (1 ∷ []) (told w a b)).count ≡ 1) × ((event 9 (1 ∷ []) (told w a b)).bytes ≡ a ∷ replicate 254 0)
   -- the bytes follow: as many as were read are printed
-  pub read_not_counted : (c : Channel) (n : ℕ) (t : Tnc) (bytes room : List ℕ) → (of_read c (record { answer = Ok n; tnc = t }, bytes) room).0.count ≡ n
+  pub read_not_counted : (c : Channel) (t : Tnc) (bytes room : List ℕ) → ((n : ℕ) → (of_read c (record { answer = Ok n; tnc = t }, bytes) room).0.count ≡ n)
+      × ((e : LentError) → (of_read c (record { answer = Err e; tnc = t }, bytes) room).0.count ≡ 0)
