@@ -12,7 +12,7 @@ ghost use Rattle.event_packet.specs.Packet.{packet_of};
 ghost use Rattle.event_answer.specs.Answer.{refused};
 ghost use Rattle.event_air.specs.Air.{of_heard};
 
-use event_answer::{Applied, EventBox, answer, number_of, refuse};
+use event_answer::{Applied, EventBox, answer, refuse};
 use event_packet::packet_frame;
 use event_stream::stream_frame;
 use protocol::{Frame, LsfFrame};
@@ -51,5 +51,9 @@ fn told(before: EventBox, frame: Frame, rx: &mut [u8], message: &mut [u8]) -> Ap
     ensures { (result, rx.new, message.new) ≡ of_heard before.channel (air_heard before.tnc rx.old message.old (frame_heard frame before.tnc.radio rx.old message.old)) }
 {
     let heard = handle_frame(before.tnc, frame, rx, message);
-    answer(number_of(heard.answer), 0, heard.tnc, before.channel)
+    let number = match heard.answer {
+        Ok(()) => 0,
+        Err(error) => error.into(),
+    };
+    answer(number, 0, heard.tnc, before.channel)
 }

@@ -2,7 +2,6 @@
 #![tactic(auto)]
 
 ghost use Rattle.std.specs.Prelude.{◌≡◌};
-ghost use Rattle.std.specs.Result.{MatchResult};
 ghost use Rattle.event_answer.specs.Answer.{answered, refused};
 
 use channel::Channel;
@@ -49,16 +48,6 @@ pub fn answer(number: u8, count: usize, tnc: Tnc, channel: Channel) -> Applied
         // Of a state out of bounds there is no PTT to tell, and 0 is printed. From a new TNC there is none.
         ptt: tnc.ptt().unwrap_or(false),
         after: EventBox { tnc, channel },
-    }
-}
-
-// Document 01's number of what a call of the TNC answers.
-pub fn number_of<T: Drop, E: Into<u8>>(answer: Result<T, E>) -> u8
-    ensures { MatchResult answer (λ _. result ≡ 0) (λ error. E.converts error result) }
-{
-    match answer {
-        Ok(_) => 0,
-        Err(error) => error.into(),
     }
 }
 

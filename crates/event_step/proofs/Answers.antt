@@ -1,9 +1,9 @@
 -- What the code for each kind of event answers, put together of what its callees said. Assumes nothing.
 use Prim.Native.Nat.{ℕ}
 use Rattle.std.specs.Prelude.{Result, Ok, Err}
-use Rattle.std.specs.Result.{result_unwrap_or}
+use Rattle.std.specs.Result.{MatchResult, result_unwrap_or}
 use Rattle.room.specs.declared.LentError.{LentError}
-use mathlib.Core.Path.{◌≡◌, ap, ◌∙◌}
+use mathlib.Core.Path.{◌≡◌, ap, sym, ◌∙◌}
 use Rattle.channel.specs.declared.ChannelSet.{ChannelSet}
 use Rattle.channel.specs.Access.{set_number}
 use Rattle.tnc_core.specs.declared.Tnc.{Tnc}
@@ -20,6 +20,11 @@ use Rattle.outgoing.specs.Message.{read_count, host_number}
 use Rattle.tnc.specs.declared.TncWritten.{TncWritten}
 use Rattle.tnc_read.specs.declared.TncRead.{TncRead}
 use Rattle.event_step.specs.Host.{of_write, of_read}
+
+-- document 01's number of an answer, from what `number_of` says of it
+pub numbered : {T E : Type 0} {n : ℕ} (f : E → ℕ) (g : Result T E → ℕ) → ((x : T) → g (Ok x) ≡ 0) → ((e : E) → g (Err e) ≡ f e) → (a : Result T E) → MatchResult a (λ _. n ≡ 0) (λ e. n ≡ f e) → n ≡ g a
+numbered f g p q (Ok x) h = h ∙ sym (p x)
+numbered f g p q (Err e) h = h ∙ sym (q e)
 
 pub set_is : (t : Tnc) (s : ChannelSet) {n : ℕ} {r : Applied} {q : ChannelSet} → r ≡ answered n 0 t s.channel → n ≡ set_number s.answer → s ≡ q → r ≡ of_set t q
 set_is t s e f g = e ∙ (λ j. answered (f j) 0 t s.channel) ∙ ap (of_set t) g

@@ -2,6 +2,7 @@
 #![tactic(auto)]
 
 ghost use Rattle.std.specs.Prelude.{◌≡◌, not, eqb, leb, length, get_or, take};
+ghost use Rattle.std.specs.Result.{MatchResult};
 ghost use Rattle.event_step.specs.Step.{world_of, turn_of, applied};
 ghost use Rattle.choice.specs.Pick.{pick};
 ghost use Rattle.channel.specs.Access.{carrier_set};
@@ -13,7 +14,7 @@ ghost use Rattle.tnc.specs.Calls.{tnc_written};
 ghost use Rattle.tnc_read.specs.Calls.{tnc_read};
 ghost use Rattle.event_step.specs.Host.{of_write, of_read};
 
-use event_answer::{Applied, EventBox, MOST_BYTES, answer, number_of, refuse};
+use event_answer::{Applied, EventBox, MOST_BYTES, answer, refuse};
 
 // What has a place in seven bytes, so that another byte leaves no more than eight.
 const SEVEN_BYTES: u64 = 72057594037927936;
@@ -123,4 +124,14 @@ fn read_host(before: EventBox, body: &[u8], message: &[u8], bytes: &mut [u8]) ->
     let read = tnc_read::read_kiss(before.tnc, message, &mut bytes[..most]);
     let count = read.answer.unwrap_or(0);
     answer(number_of(read.answer), count, read.tnc, before.channel)
+}
+
+// Document 01's number of what a call of the TNC answers. Private: of any error type there is no equation, and where it is called the type is known.
+fn number_of<T: Drop, E: Into<u8>>(answer: Result<T, E>) -> u8
+    ensures { MatchResult answer (λ _. result ≡ 0) (λ error. E.converts error result) }
+{
+    match answer {
+        Ok(_) => 0,
+        Err(error) => error.into(),
+    }
 }

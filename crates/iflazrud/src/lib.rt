@@ -11,7 +11,7 @@ ghost use Rattle.kiss_calls.specs.Calls.{written, next_frame};
 ghost use Rattle.link_numbers.specs.Numbers.{counted_escape, counted_build, counted_write, counted_next};
 
 use kiss_calls::KissBuffer;
-use link_numbers::{Counted, ReaderAnswer, count_of, reader_answer};
+use link_numbers::{Counted, ReaderAnswer, build_count, escape_count, next_count, write_count};
 
 #[unsafe(no_mangle)]
 pub extern "C" fn iflazrud_m17_crc(bytes: &[u8]) -> u16
@@ -24,7 +24,7 @@ pub extern "C" fn iflazrud_m17_crc(bytes: &[u8]) -> u16
 pub extern "C" fn iflazrud_escape(src: &[u8], dst: &mut [u8]) -> Counted
     ensures { (result, dst.new) ≡ counted_escape (escaped src.now dst.old) }
 {
-    count_of(kiss_escape::escape(src, dst))
+    escape_count(kiss_escape::escape(src, dst))
 }
 
 #[unsafe(no_mangle)]
@@ -38,7 +38,7 @@ pub extern "C" fn iflazrud_unescape(src: &[u8], dst: &mut [u8]) -> usize
 pub extern "C" fn iflazrud_new_full_packet(lsf: &[u8], packet: &[u8], room: &mut [u8]) -> Counted
     ensures { (result, room.new) ≡ counted_build (built (full_packet lsf.now packet.now) room.old) }
 {
-    count_of(kiss_build::new_full_packet(lsf, packet, room))
+    build_count(kiss_build::new_full_packet(lsf, packet, room))
 }
 
 #[unsafe(no_mangle)]
@@ -49,8 +49,7 @@ pub extern "C" fn iflazrud_reader_write(
 ) -> ReaderAnswer
     ensures { (result, store.new) ≡ counted_write (written reader offered.now store.old) }
 {
-    let written = kiss_buffer::write(reader, offered, store);
-    reader_answer(written.answer, written.buffer)
+    write_count(kiss_buffer::write(reader, offered, store))
 }
 
 #[unsafe(no_mangle)]
@@ -58,6 +57,5 @@ pub extern "C" fn iflazrud_reader_next(reader: KissBuffer, store: &mut [u8]) -> 
     ensures { (result, store.new) ≡ counted_next (next_frame reader store.old) }
 {
     let next = kiss_next::next_frame(reader, store);
-    let found = next.answer.map(|len| len.unwrap_or(0));
-    reader_answer(found, next.buffer)
+    next_count(next.answer, next.buffer)
 }

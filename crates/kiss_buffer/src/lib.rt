@@ -67,7 +67,7 @@ fn accept(offered: &[u8], store: &mut [u8], kept: usize) -> Written
     ensures { (result, store.new) ≡ accepted kept offered.now store.old }
 {
     let count = offered.len().min(MAX_FRAME_LEN - kept);
-    store[kept..kept + count].copy_from_slice(&offered[..count]);
+    let _ = store::copy_in(&offered[..count], store, kept);
     Written {
         answer: Ok(count),
         buffer: KissBuffer {

@@ -2,9 +2,12 @@
 #![tactic(auto)]
 
 ghost use Rattle.std.specs.Prelude.{◌≡◌, MatchResult};
-ghost use Rattle.link_numbers.specs.Numbers.{counted, told};
+ghost use Rattle.kiss_calls.specs.Calls.{write_number, taken_by};
+ghost use Rattle.link_numbers.specs.Numbers.{counted, told, escape_count, build_count, next_count};
 
-use kiss_calls::KissBuffer;
+use kiss_calls::{KissBuffer, Written};
+use kiss_layout::BuildError;
+use room::{LentError, NoRoom};
 
 // A number of document 01, and how many bytes where it is 0.
 // C has no Result: the two stand side by side.
@@ -25,7 +28,34 @@ pub struct ReaderAnswer {
     pub reader: KissBuffer,
 }
 
-pub fn count_of<E: Into<u8>>(answer: Result<usize, E>) -> Counted
+pub fn escape_count(escaped: Result<usize, NoRoom>) -> Counted
+    ensures { result ≡ escape_count escaped }
+{
+    count_of(escaped)
+}
+
+pub fn build_count(built: Result<usize, BuildError>) -> Counted
+    ensures { result ≡ build_count built }
+{
+    count_of(built)
+}
+
+pub fn write_count(written: Written) -> ReaderAnswer
+    ensures { result ≡ told (write_number written.answer) (taken_by written.answer) written.buffer }
+{
+    reader_answer(written.answer, written.buffer)
+}
+
+// Where there is no frame its length is 0.
+pub fn next_count(answer: Result<Option<usize>, LentError>, after: KissBuffer) -> ReaderAnswer
+    ensures { result ≡ next_count answer after }
+{
+    let found = answer.map(|len| len.unwrap_or(0));
+    reader_answer(found, after)
+}
+
+// These two are private: of any error type there is no equation, and where they are called the type is known.
+fn count_of<E: Into<u8>>(answer: Result<usize, E>) -> Counted
     ensures { MatchResult answer (λ n. result ≡ counted 0 n) (λ error. E.converts error result.number × (result.count ≡ 0)) }
 {
     match answer {
@@ -37,7 +67,7 @@ pub fn count_of<E: Into<u8>>(answer: Result<usize, E>) -> Counted
     }
 }
 
-pub fn reader_answer<E: Into<u8>>(answer: Result<usize, E>, reader: KissBuffer) -> ReaderAnswer
+fn reader_answer<E: Into<u8>>(answer: Result<usize, E>, reader: KissBuffer) -> ReaderAnswer
     ensures { MatchResult answer (λ n. result ≡ told 0 n reader) (λ error. E.converts error result.number × (result.count ≡ 0) × (result.reader ≡ reader)) }
 {
     let (number, count) = match answer {

@@ -8,12 +8,12 @@ use Rattle.choice.specs.Pick.{pick, and}
 use Rattle.choice.specs.Cases.{all_pass}
 use Rattle.packets.specs.declared.PacketQueue.{PacketQueue}
 use Rattle.packets.specs.Frames.{AirFrame, zeros, padded, chunk, chunks, data_frames}
-use Rattle.packets.specs.Queue.{sound_place, sound_queue, is_empty, with_place, advanced, lsf_read, data_read, turn, walk, read_next}
+use Rattle.packets.specs.Queue.{new_queue, sound_place, sound_queue, is_empty, with_place, advanced, lsf_read, data_read, turn, walk, read_next}
 use Rattle.packets.specs.Promises.{Sound}
 use Rattle.packets.proofs.Kept as packets
 use Rattle.packet_rule.specs.Left.{left_of, waiting, in_turn, rest_at, lsf_left, data_left}
 use Rattle.packet_rule.specs.Promises.{one_waits, one_store}
-use Rattle.packet_rule.specs.Wrong.{Rule, RuleIsKept, only_ends, repeats, frees_at_once, clears_when_empty, four_are_none, WrongReadsBreakIt}
+use Rattle.packet_rule.specs.Wrong.{Rule, RuleIsKept, only_ends, repeats, frees_at_once, clears_when_empty, four_are_none, keys_up_again, WrongReadsBreakIt}
 use Rattle.packet_rule.proofs.Kept.{read_takes, end_is_used_up, something_is_given, one_is_left}
 use Rattle.packet_rule.proofs.Held.{frame_keeps_its_place}
 
@@ -23,6 +23,7 @@ rule_is_kept =
       takes = read_takes;
       ends = end_is_used_up;
       gives = something_is_given;
+      gives_packets = packets.gives_packets;
       holds = λ q store s. frame_keeps_its_place q store;
       stays_sound = λ q store s. (packets.sound_stays_sound q store s).1;
     }
@@ -73,5 +74,9 @@ four_are_none_lem : Rule four_are_none → ⊥
 unfolding four_wait pick left_of waiting in_turn rest_at lsf_left data_left data_frames chunks chunk padded zeros
 four_are_none_lem r = r.gives four_wait one_store four_sound (λ e. none_is_not_some _ _ e) refl
 
+keys_up_again_lem : Rule keys_up_again → ⊥
+unfolding is_empty pick
+keys_up_again_lem r = false≢true (r.gives_packets new_queue [] _ refl)
+
 pub wrong_reads_break_it : WrongReadsBreakIt
-wrong_reads_break_it = (only_ends_lem, repeating, frees_at_once_lem, clears_when_empty_lem, four_are_none_lem)
+wrong_reads_break_it = (only_ends_lem, repeating, frees_at_once_lem, clears_when_empty_lem, four_are_none_lem, keys_up_again_lem)

@@ -1,12 +1,14 @@
--- The queue rule as a demand on any read of the packet queue, and five wrong reads that break it: those of document 01's "What the contracts have to say" and of its list
--- of what is easy to get wrong. That ours keeps it and that each of the five breaks it is proved in proofs/Wrong.antt. Assumes nothing.
-use Rattle.std.specs.Prelude.{ℕ, false, ◌≢◌, ◌≡◌, List, [], ◌++◌, eqb, Ok, Some, None}
+-- The queue rule as a demand on any read of the packet queue, and six wrong reads that break it: those of document 01's "What the contracts have to say" and of its list
+-- of what is easy to get wrong, and one that gives another frame than a packet's. That ours keeps it and that each of the six breaks it is proved in proofs/Wrong.antt.
+-- Assumes nothing.
+use Rattle.std.specs.Prelude.{ℕ, true, false, ◌≢◌, ◌≡◌, List, [], ◌++◌, eqb, Ok, Some, None}
 use Rattle.choice.specs.Pick.{pick}
-use Rattle.protocol.specs.declared.ModulatorFrame.TheVariants.{EndOfTransmission}
+use Rattle.protocol.specs.declared.ModulatorFrame.{ModulatorFrame}
+use Rattle.protocol.specs.declared.ModulatorFrame.TheVariants.{Preamble, EndOfTransmission}
 use Rattle.packets.specs.declared.PacketQueue.{PacketQueue}
 use Rattle.packets.specs.declared.PacketRead.{PacketRead}
 use Rattle.packets.specs.Queue.{is_empty, here, advanced, not_read, read_next}
-use Rattle.packets.specs.Promises.{Sound}
+use Rattle.packets.specs.Promises.{of_packets, Sound}
 use Rattle.packet_rule.specs.Left.{left_of}
 use Rattle.packet_rule.specs.Promises.{given}
 
@@ -18,6 +20,8 @@ pub record Rule (read : PacketQueue → List ℕ → PacketRead) : Type 0 where
   pub ends : (q : PacketQueue) (store : List ℕ) → Sound q store → (read q store).answer ≡ Ok (Some EndOfTransmission) → left_of q store ≡ []
   -- while something is left a frame is given
   pub gives : (q : PacketQueue) (store : List ℕ) → Sound q store → left_of q store ≢ [] → given (read q store) ≢ []
+  -- no frame is given but a packet's LSF, its data and the end
+  pub gives_packets : (q : PacketQueue) (store : List ℕ) (frame : ModulatorFrame) → (read q store).answer ≡ Ok (Some frame) → of_packets frame ≡ true
   -- a place is held until the read behind its last frame, so that an end is given there
   pub holds : (q : PacketQueue) (store : List ℕ) → Sound q store → given (read q store) ≢ [] → is_empty (read q store).queue ≡ false
   -- and no later call is answered 8
@@ -56,6 +60,10 @@ clears_when_empty q store = let r = read_next q store in with_queue r (stays_ful
 abbrev pub four_are_none : PacketQueue → List ℕ → PacketRead
 four_are_none q store = pick (eqb q.next q.curr) (not_read (Ok None) q) (read_next q store)
 
+-- gives a preamble where nothing waits
+abbrev pub keys_up_again : PacketQueue → List ℕ → PacketRead
+keys_up_again q store = pick (is_empty q) (not_read (Ok (Some (Preamble 0))) q) (read_next q store)
+
 -- each of them breaks the rule
 abbrev pub WrongReadsBreakIt : Type 0
-WrongReadsBreakIt = (Rule only_ends → ⊥) × (Rule repeats → ⊥) × (Rule frees_at_once → ⊥) × (Rule clears_when_empty → ⊥) × (Rule four_are_none → ⊥)
+WrongReadsBreakIt = (Rule only_ends → ⊥) × (Rule repeats → ⊥) × (Rule frees_at_once → ⊥) × (Rule clears_when_empty → ⊥) × (Rule four_are_none → ⊥) × (Rule keys_up_again → ⊥)

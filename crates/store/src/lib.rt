@@ -1,7 +1,8 @@
 // Bytes put into a store that the caller lends.
 #![tactic(auto)]
 
-ghost use Rattle.std.specs.Prelude.{◌≡◌};
+ghost use Rattle.std.specs.Prelude.{◌≡◌, ◌+◌, ◌≤◌, length};
+ghost use Rattle.std.proofs.lemmas.List.Edits.{sets};
 ghost use Rattle.room.specs.Room.{copied};
 
 use room::NoRoom;
@@ -16,6 +17,18 @@ pub fn copy_in(src: &[u8], dst: &mut [u8], at: usize) -> Result<(), NoRoom>
     if dst.len() - at < src.len() {
         return Err(NoRoom);
     }
-    dst[at..at + src.len()].copy_from_slice(src);
+    put(src, dst, at);
     Ok(())
+}
+
+// A loop and no `copy_from_slice`: that calls memmove, which an archive for C would then want from outside.
+fn put(src: &[u8], dst: &mut [u8], at: usize)
+    requires { at + length src.now ≤ length dst.old }
+    ensures { dst.new ≡ sets dst.old at src.now }
+{
+    let mut i = 0;
+    while i < src.len() {
+        dst[at + i] = src[i];
+        i += 1;
+    }
 }

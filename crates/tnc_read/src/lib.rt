@@ -29,7 +29,7 @@ pub fn read_kiss(tnc: Tnc, message: &[u8], target: &mut [u8]) -> TncRead
     let Outgoing { len, read } = tnc.radio.outgoing;
     let waiting = &message[read..len];
     let count = waiting.len().min(target.len());
-    target[..count].copy_from_slice(&waiting[..count]);
+    let _ = store::copy_in(&waiting[..count], target, 0);
     TncRead {
         answer: Ok(count),
         tnc: tnc.with_radio(read_up_to(tnc.radio, read + count)),

@@ -4,8 +4,7 @@ use borrow.Author.Tests.{eq-eqb, ne_eqb}
 use lib.ListN.{length}
 use Rattle.choice.specs.Pick.{pick_yes, pick_no}
 use Rattle.channel.specs.Access.{set_number}
-use Rattle.event_answer.proofs.Numbers.{numbered}
-use Rattle.event_step.proofs.Answers.{set_is}
+use Rattle.event_step.proofs.Answers.{numbered, set_is}
 use Rattle.event_step.proofs.carrier.Goals as goal
 
 pub returns-then-body-ne1 : goal.returns-then-body-ne1

@@ -6,8 +6,7 @@ use Rattle.choice.specs.Pick.{pick_yes, pick_no}
 use Rattle.tnc_clock.specs.Clock.{end_time_set}
 use Rattle.event_step.proofs.Numbers.{number_of_four}
 use Rattle.channel.specs.Access.{set_number}
-use Rattle.event_answer.proofs.Numbers.{numbered}
-use Rattle.event_step.proofs.Answers.{timed_is}
+use Rattle.event_step.proofs.Answers.{numbered, timed_is}
 use Rattle.event_step.proofs.end_time.Goals as goal
 
 pub returns-then-body-ne4 : goal.returns-then-body-ne4

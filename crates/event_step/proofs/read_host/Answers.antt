@@ -6,8 +6,7 @@ use lib.Seq.{length-take-le}
 use Rattle.choice.specs.Pick.{pick_yes, pick_no}
 use Rattle.event_answer.specs.Answer.{MOST}
 use Rattle.outgoing.specs.Message.{host_number}
-use Rattle.event_answer.proofs.Numbers.{numbered}
-use Rattle.event_step.proofs.Answers.{counted, read_part}
+use Rattle.event_step.proofs.Answers.{numbered, counted, read_part}
 use Rattle.event_step.proofs.read_host.Goals as goal
 
 pub overflow_cast-most : goal.overflow_cast-most

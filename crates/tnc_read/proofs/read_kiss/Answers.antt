@@ -4,9 +4,10 @@ use Rattle.std.specs.Prelude.{min, Ok}
 use mathlib.Core.Bool.{true}
 use borrow.Author.Tests.{eq-eqb}
 use lib.ListN.{length-drop}
-use lib.Seq.{take-take, length-take-le}
+use lib.Seq.{sets, sets-eq, take-take, length-take-le}
 use Rattle.choice.specs.Pick.{pick, is_yes, and_snd}
 use Rattle.room.specs.Room.{over}
+use Rattle.room.proofs.Copies.{copied_in}
 use Rattle.outgoing.specs.declared.HostRead.{HostRead}
 use Rattle.outgoing.specs.Message.{STORE, read_up_to, given, sound_message}
 use Rattle.outgoing.proofs.Messages.{sound_read, sound_len, read_sound}
@@ -21,6 +22,12 @@ use Rattle.tnc_read.proofs.read_kiss.Goals as goal
 its_message : (t : Tnc) → sound_tnc t ≡ true → sound_message t.radio.outgoing ≡ true
 unfolding sound_radio
 its_message t e = and_snd _ _ (parts t e).its_radio
+
+-- n bytes put at the start of a room
+put-first : (d s : List ℕ) (n : ℕ) → length s ≡ n → n ≤ length d → sets d 0 s ≡ s ++ drop n d
+put-first d s n e h =
+    let k : 0 + length s ≡ n = omega (arith, e) in
+    sets-eq s d 0 (omega (arith, e)) ∙ ap (λ m. s ++ drop m d) k
 
 module _ (t : Tnc) (message : List ℕ) (l : length message ≡ STORE) (e : sound_tnc t ≡ true) where
   abbrev from : ℕ
@@ -39,14 +46,15 @@ module _ (t : Tnc) (message : List ℕ) (l : length message ≡ STORE) (e : soun
   all = length-take-le _ _ (omega (arith, length-drop from message, within))
 
   -- what is answered once so much of what waits stands in the target
-  answers : (target : List ℕ) (n : ℕ) {x : Tnc} {part : List ℕ} → n ≡ min (length waiting) (length target) → x ≡ with_message t (read_up_to t.radio.outgoing (from + n)) → part ≡ take n waiting
-      → (record { answer = Ok n; tnc = x }, part ++ drop n target) ≡ tnc_read t message target
+  answers : (target : List ℕ) (n : ℕ) {x : Tnc} {left : List ℕ} → n ≡ min (length waiting) (length target) → x ≡ with_message t (read_up_to t.radio.outgoing (from + n)) → left ≡ sets target 0 (take n waiting)
+      → (record { answer = Ok n; tnc = x }, left) ≡ tnc_read t message target
   unfolding tnc_read pick
-  answers target n {x} {part} m q p =
+  answers target n {x} {left} m q p =
       let g : n ≡ given t.radio.outgoing target = m ∙ ap (λ k. min k (length target)) all in
       let fit : length (sent n) ≡ n = length-take-le _ _ (omega (arith, m, all, length-drop from message, within)) in
-      let out : part ++ drop n target ≡ over (sent n) target =
-      ap (λ k. k ++ drop n target) (p ∙ take-take n _ (drop from message) (omega (arith, m, all))) ∙ ap (λ k. sent n ++ drop k target) (sym fit) in
+      let here : length (take n waiting) ≡ n = length-take-le _ _ (omega (arith, m)) in
+      let out : left ≡ over (sent n) target =
+      p ∙ put-first target (take n waiting) n here (omega (arith, m)) ∙ ap (λ k. k ++ drop n target) (take-take n _ (drop from message) (omega (arith, m, all))) ∙ ap (λ k. sent n ++ drop k target) (sym fit) in
       rw (eq-eqb (length message) STORE l, e)
       ((λ j. (record { answer = Ok n; tnc = q j }, out j))
       ∙ ap {B = TncRead × List ℕ} (λ k. (record { answer = Ok k; tnc = with_message t (read_up_to t.radio.outgoing (from + k)) }, over (sent k) target)) g
@@ -56,7 +64,8 @@ pub returns : goal.returns
 returns c =
     let a = c.args in
     answers a.tnc a.message.now c.if-message-ne-MESSAGE_STORE_LEN.false (is_yes c.is_sound.ensures c.if-not-is_sound.false) a.target.now c.min-count.result c.min-count.ensures
-    (c.with_radio.ensures ∙ ap (with_radio a.tnc) c.read_up_to.ensures) c.copy_from_slice.ensures.after
+    (c.with_radio.ensures ∙ ap (with_radio a.tnc) c.read_up_to.ensures)
+    (copied_in (take c.min-count.result (waiting a.tnc a.message.now c.if-message-ne-MESSAGE_STORE_LEN.false (is_yes c.is_sound.ensures c.if-not-is_sound.false))) a.target.now 0 c.copy_in.ensures (omega (arith, c.min-count.ensures, length-take-le c.min-count.result (waiting a.tnc a.message.now c.if-message-ne-MESSAGE_STORE_LEN.false (is_yes c.is_sound.ensures c.if-not-is_sound.false)) (omega (arith, c.min-count.ensures)))))
 
 pub slice_bounds-waiting-count : goal.slice_bounds-waiting-count
 slice_bounds-waiting-count c = let a = c.args in (within a.tnc a.message.now c.if-message-ne-MESSAGE_STORE_LEN.false (is_yes c.is_sound.ensures c.if-not-is_sound.false)).0
