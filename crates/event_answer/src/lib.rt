@@ -2,6 +2,7 @@
 #![tactic(auto)]
 
 ghost use Rattle.std.specs.Prelude.{◌≡◌};
+ghost use Rattle.std.specs.Result.{MatchResult};
 ghost use Rattle.event_answer.specs.Answer.{answered, refused};
 
 use channel::Channel;
@@ -51,9 +52,44 @@ pub fn answer(number: u8, count: usize, tnc: Tnc, channel: Channel) -> Applied
     }
 }
 
+// Document 01's number of what a call of the TNC answers, whatever its kind of refusal. Of any error type there is no equation: its own `Into` says the number.
+pub fn number_of<T: Drop, E: Into<u8>>(answer: Result<T, E>) -> u8
+    ensures { MatchResult answer (λ _. result ≡ 0) (λ error. E.converts error result) }
+{
+    match answer {
+        Ok(_) => 0,
+        Err(error) => error.into(),
+    }
+}
+
 // What is not done: answer 9, and nothing is changed.
 pub fn refuse(before: EventBox) -> Applied
     ensures { result ≡ refused before }
 {
     answer(9, 0, before.tnc, before.channel)
+}
+
+#[cfg(test)]
+mod tests {
+    use super::number_of;
+    use channel::{Access, ChannelError};
+    use kiss_calls::WriteError;
+    use room::{LentError, NoRoom};
+
+    // The numbers are those of document 01's "Answer numbers".
+    #[test]
+    fn each_kind_of_refusal_has_its_number(rt: HostRuntime) {
+        let taken: Result<usize, WriteError> = Ok(3);
+        let waits: Result<Access, ChannelError> = Ok(Access::Waits);
+        let full: Result<usize, WriteError> = Err(WriteError::Full);
+        let late: Result<(), ChannelError> = Err(ChannelError::OutOfRange);
+        let short: Result<(), NoRoom> = Err(NoRoom);
+        let unsound: Result<usize, LentError> = Err(LentError::OutOfBounds);
+        assert_eq!(rt; number_of(taken), 0);
+        assert_eq!(rt; number_of(waits), 0);
+        assert_eq!(rt; number_of(full), 5);
+        assert_eq!(rt; number_of(late), 6);
+        assert_eq!(rt; number_of(short), 7);
+        assert_eq!(rt; number_of(unsound), 8);
+    }
 }

@@ -126,7 +126,7 @@ fn read_host(before: EventBox, body: &[u8], message: &[u8], bytes: &mut [u8]) ->
     answer(number_of(read.answer), count, read.tnc, before.channel)
 }
 
-// Document 01's number of what a call of the TNC answers. Private: of any error type there is no equation, and where it is called the type is known.
+// As `event_answer::number_of`, and kept beside it: the must-fail edits of `apply` turn it, and an edit stands in its own crate.
 fn number_of<T: Drop, E: Into<u8>>(answer: Result<T, E>) -> u8
     ensures { MatchResult answer (λ _. result ≡ 0) (λ error. E.converts error result) }
 {

@@ -28,6 +28,7 @@ pub struct ReaderAnswer {
     pub reader: KissBuffer,
 }
 
+// These four are `count_of` and `reader_answer` at the types that occur, where each has an equation.
 pub fn escape_count(escaped: Result<usize, NoRoom>) -> Counted
     ensures { result ≡ escape_count escaped }
 {
@@ -54,8 +55,8 @@ pub fn next_count(answer: Result<Option<usize>, LentError>, after: KissBuffer) -
     reader_answer(found, after)
 }
 
-// These two are private: of any error type there is no equation, and where they are called the type is known.
-fn count_of<E: Into<u8>>(answer: Result<usize, E>) -> Counted
+// These two take any error type that has a number. There is no equation then: its own `Into` says the number.
+pub fn count_of<E: Into<u8>>(answer: Result<usize, E>) -> Counted
     ensures { MatchResult answer (λ n. result ≡ counted 0 n) (λ error. E.converts error result.number × (result.count ≡ 0)) }
 {
     match answer {
@@ -67,7 +68,7 @@ fn count_of<E: Into<u8>>(answer: Result<usize, E>) -> Counted
     }
 }
 
-fn reader_answer<E: Into<u8>>(answer: Result<usize, E>, reader: KissBuffer) -> ReaderAnswer
+pub fn reader_answer<E: Into<u8>>(answer: Result<usize, E>, reader: KissBuffer) -> ReaderAnswer
     ensures { MatchResult answer (λ n. result ≡ told 0 n reader) (λ error. E.converts error result.number × (result.count ≡ 0) × (result.reader ≡ reader)) }
 {
     let (number, count) = match answer {
@@ -78,5 +79,53 @@ fn reader_answer<E: Into<u8>>(answer: Result<usize, E>, reader: KissBuffer) -> R
         number,
         count,
         reader,
+    }
+}
+
+#[cfg(test)]
+mod tests {
+    use super::{count_of, reader_answer};
+    use kiss_calls::{KissBuffer, WriteError};
+    use kiss_layout::{BuildError, KissError};
+    use room::{LentError, NoRoom};
+
+    // The numbers are those of document 01's "Answer numbers".
+    #[test]
+    fn counts_of_any_answer(rt: HostRuntime) {
+        let escaped: Result<usize, NoRoom> = Ok(855);
+        let no_room: Result<usize, NoRoom> = Err(NoRoom);
+        let too_big: Result<usize, BuildError> = Err(BuildError::PayloadTooBig);
+        let no_header: Result<usize, KissError> = Err(KissError::MalformedKissFrame);
+        for (counted, number, count) in [
+            (count_of(escaped), 0, 855),
+            (count_of(no_room), 7, 0),
+            (count_of(too_big), 1, 0),
+            (count_of(no_header), 3, 0),
+        ] {
+            assert_eq!(rt; counted.number, number);
+            assert_eq!(rt; counted.count, count);
+        }
+    }
+
+    // The record comes back as it was handed over, beside a count and beside a refusal.
+    #[test]
+    fn records_of_any_answer(rt: HostRuntime) {
+        let reader = KissBuffer {
+            filled: 40,
+            taken: true,
+        };
+        let taken: Result<usize, WriteError> = Ok(12);
+        let full: Result<usize, WriteError> = Err(WriteError::Full);
+        let unsound: Result<usize, LentError> = Err(LentError::OutOfBounds);
+        for (answer, number, count) in [
+            (reader_answer(taken, reader), 0, 12),
+            (reader_answer(full, reader), 5, 0),
+            (reader_answer(unsound, reader), 8, 0),
+        ] {
+            assert_eq!(rt; answer.number, number);
+            assert_eq!(rt; answer.count, count);
+            assert_eq!(rt; answer.reader.filled, 40);
+            assert!(rt; answer.reader.taken);
+        }
     }
 }

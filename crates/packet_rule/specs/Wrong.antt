@@ -27,6 +27,14 @@ pub record Rule (read : PacketQueue → List ℕ → PacketRead) : Type 0 where
   -- and no later call is answered 8
   pub stays_sound : (q : PacketQueue) (store : List ℕ) → Sound q store → Sound (read q store).queue store
 
+-- what of this is asked of packets' frames alone, in the same words: a read may give other frames too
+pub record FramesRule (read : PacketQueue → List ℕ → PacketRead) : Type 0 where
+  pub takes : (q : PacketQueue) (store : List ℕ) → Sound q store → left_of q store ≡ given (read q store) ++ left_of (read q store).queue store
+  pub ends : (q : PacketQueue) (store : List ℕ) → Sound q store → (read q store).answer ≡ Ok (Some EndOfTransmission) → left_of q store ≡ []
+  pub gives : (q : PacketQueue) (store : List ℕ) → Sound q store → left_of q store ≢ [] → given (read q store) ≢ []
+  pub holds : (q : PacketQueue) (store : List ℕ) → Sound q store → given (read q store) ≢ [] → is_empty (read q store).queue ≡ false
+  pub stays_sound : (q : PacketQueue) (store : List ℕ) → Sound q store → Sound (read q store).queue store
+
 -- ours keeps it
 abbrev pub RuleIsKept : Type 0
 RuleIsKept = Rule read_next
@@ -67,3 +75,7 @@ keys_up_again q store = pick (is_empty q) (not_read (Ok (Some (Preamble 0))) q) 
 -- each of them breaks the rule
 abbrev pub WrongReadsBreakIt : Type 0
 WrongReadsBreakIt = (Rule only_ends → ⊥) × (Rule repeats → ⊥) × (Rule frees_at_once → ⊥) × (Rule clears_when_empty → ⊥) × (Rule four_are_none → ⊥) × (Rule keys_up_again → ⊥)
+
+-- and the first five break what is asked of packets' frames already
+abbrev pub FiveBreakFramesRule : Type 0
+FiveBreakFramesRule = (FramesRule only_ends → ⊥) × (FramesRule repeats → ⊥) × (FramesRule frees_at_once → ⊥) × (FramesRule clears_when_empty → ⊥) × (FramesRule four_are_none → ⊥)
